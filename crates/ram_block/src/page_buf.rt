@@ -1,5 +1,6 @@
-ghost use Rattle.std.specs.Prelude.{◌≡◌, List, ℕ, length, replicate, IfOk};
+ghost use Rattle.std.specs.Prelude.{◌≡◌, length, IfOk};
 ghost use Rattle.std.specs.Borrow.{Lends, sem, Array, u8 as byte};
+ghost use Rattle.ram_block.specs.Page.{zero_page};
 ghost use Rattle.ram_block.specs.contracts.page_buf.PageBuf.{the_row};
 
 use crate::NoMemory;
@@ -16,7 +17,7 @@ pub struct PageBuf {
 }
 
 impl Model for PageBuf {
-    ghost use Rattle.std.specs.Prelude.{◌≡◌, List, ℕ, length};
+    ghost use Rattle.std.specs.Prelude.{List, ℕ};
 
     ghost Value = { List ℕ };
 
@@ -25,8 +26,9 @@ impl Model for PageBuf {
 
 impl PageBuf {
     /// A page of zeros.
+    #[tactic(auto, unfolding(crate::specs::Page::zero_page))]
     pub fn new(alloc: Global) -> Result<PageBuf, NoMemory>
-        ensures { IfOk result (λ page. page ≡ replicate PAGE 0) }
+        ensures { IfOk result (λ page. page ≡ zero_page) }
     {
         Ok(PageBuf {
             bytes: Box::new(alloc, [0; PAGE])?,

@@ -1,4 +1,4 @@
-ghost use Rattle.std.specs.Prelude.{◌≡◌, ◌↔◌, ◌≤◌, IfOk};
+ghost use Rattle.std.specs.Prelude.{◌≡◌, ◌↔◌, ◌≤◌, IsOk, IfOk};
 
 use crate::PAGE;
 use std::marker::Model;
@@ -51,6 +51,7 @@ impl Shape {
     ghost use Rattle.ram_block.specs.Shape.{IsWithin, IsShape, total_pages_of, ram_bytes_of};
 
     pub fn new(vcpus: u64, blocks: u64, pages: u64) -> Result<Shape, ShapeFault>
+        ensures valid { IsOk result ↔ (IsWithin vcpus MAX_VCPUS × IsWithin blocks MAX_BLOCKS × IsWithin pages MAX_PAGES) }
         ensures ok { IfOk result (λ s. s ≡ record { vcpus = vcpus; blocks = blocks; pages = pages }) }
         ensures vcpus { (result ≡ Err (ShapeFault.Vcpus vcpus)) ↔ ¬ IsWithin vcpus MAX_VCPUS }
         ensures blocks { (result ≡ Err (ShapeFault.Blocks blocks)) ↔ (IsWithin vcpus MAX_VCPUS × ¬ IsWithin blocks MAX_BLOCKS) }

@@ -1,0 +1,25 @@
+-- Each byte was taken, without its bits past the last page.
+use Rattle.std.proofs.Common.{◌≡◌, ℕ, ◌≤◌, length, sym, ap, ◌∙◌, subst, arith, refl}
+use Rattle.page_bitmap.specs.Bitmap.{BitmapData, byte_len_of}
+use Rattle.page_bitmap.proofs.Bits.{length-bits_of}
+use Rattle.page_bitmap.proofs.Packed.{cut_all, cut_bits, cut_packed}
+use Rattle.page_bitmap.proofs.bitmap.Bitmap.get_bytes.Goals as goal
+
+pub invariant_of-self : goal.invariant_of-self
+invariant_of-self c =
+    let f = c.loop-i.self-inside in
+    let n : f.pages ≡ c.args.self.now.pages = c.loop-i.invariant.same_pages ∙ ap (λ (d : BitmapData). d.pages) c.self.view_is in
+    let len : length c.args.bytes.now ≡ byte_len_of f.pages = c.requires ∙ sym (ap byte_len_of n) in
+    let past : byte_len_of f.pages ≤ c.loop-i.i = subst (λ (m : ℕ). m ≤ c.loop-i.i) len (omega arith) in
+    cut_packed f.pages c.args.bytes.now f.bytes.items (cut_all _ _ _ _ c.loop-i.invariant.cut past)
+
+pub returns-clause-bits : goal.returns-clause-bits
+returns-clause-bits c =
+    let f = c.loop-i.self-inside in
+    let n : f.pages ≡ c.args.self.now.pages = c.loop-i.invariant.same_pages ∙ ap (λ (d : BitmapData). d.pages) c.self.view_is in
+    let len : length c.args.bytes.now ≡ byte_len_of f.pages = c.requires ∙ sym (ap byte_len_of n) in
+    let past : byte_len_of f.pages ≤ c.loop-i.i = subst (λ (m : ℕ). m ≤ c.loop-i.i) len (omega arith) in
+    rw (← n, cut_bits f.pages c.args.bytes.now f.bytes.items (cut_all _ _ _ _ c.loop-i.invariant.cut past)) refl
+
+pub returns-clause-kept : goal.returns-clause-kept
+returns-clause-kept c = length-bits_of _ _

@@ -1,0 +1,45 @@
+-- A list of pages as links by page number, in both directions (this project's own, docs/ARCHITECTURE.md).
+use Rattle.std.specs.Prelude.{◌≡◌, ℕ, zero, suc, ◌<◌, ◌==◌, List, [], ◌∷◌, length, reverse, Option, Some, None, slice_get, slice_index, slice_set, if◌then◌else◌}
+use Rattle.page_sweep.specs.Sweep.{IsSweep}
+
+-- the first of the list, or p where it is empty
+abbrev pub first_or : ℕ → List ℕ → ℕ
+first_or p [] = p
+first_or p (a ∷ q) = a
+
+-- the page after p, p where it is last, and the number of pages where p isn't in the list
+abbrev pub link_of : ℕ → List ℕ → ℕ → ℕ
+link_of pages [] p = pages
+link_of pages (a ∷ q) p = if p == a then first_or p q else link_of pages q p
+
+-- the pages met from p on along the links, at most n of them
+abbrev pub walk : ℕ → List ℕ → ℕ → List ℕ
+walk zero links p = []
+walk (suc n) links p = p ∷ (if slice_index links p == p then [] else walk n links (slice_index links p))
+
+-- the list that the links of one direction stand for
+abbrev pub walked : Option ℕ → List ℕ → List ℕ
+walked None links = []
+walked (Some p) links = walk (length links) links p
+
+-- the links once page p between two others is out of them: `before` is p where p was first, and `after` where it was last
+abbrev pub links_without : List ℕ → ℕ → ℕ → ℕ → ℕ → List ℕ
+links_without links pages before p after = slice_set (if before == p then links else slice_set links before (if after == p then before else after)) p pages
+
+-- the start of the links then
+abbrev pub start_without : Option ℕ → ℕ → ℕ → ℕ → Option ℕ
+start_without start before p after = if before == p then (if after == p then None else Some after) else start
+
+-- the links of one direction and their start are those of the list q, and the walk along them gives it
+pub record IsChain (pages : ℕ) (links : List ℕ) (start : Option ℕ) (q : List ℕ) : Type 0 where
+  pub same_length : length links ≡ pages
+  pub same_links : (p : ℕ) → p < pages → slice_index links p ≡ link_of pages q p
+  pub begins : start ≡ slice_get q 0
+  pub walks : walked start links ≡ q
+
+-- the links of both directions are those of the list q, which is that of a sweep
+pub record IsLinked (pages : ℕ) (next prev : List ℕ) (first last : Option ℕ) (left : ℕ) (q : List ℕ) : Type 0 where
+  pub forth : IsChain pages next first q
+  pub back : IsChain pages prev last (reverse q)
+  pub count : left ≡ length q
+  pub sweep : IsSweep (record { pages = pages; list = q })

@@ -1,0 +1,5 @@
+pub mod OneEncoding
+pub mod Pieces
+pub mod Ranges
+pub mod Rows
+pub mod WithImmediate

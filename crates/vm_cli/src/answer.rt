@@ -1,0 +1,70 @@
+ghost use Rattle.std.specs.Prelude.{◌≡◌};
+ghost use Rattle.vm_cli.specs.Answer.{fault_status, status_of, fault_of_image, fault_of_save};
+
+use crate::image::ImageFault;
+use crate::save::SaveFault;
+use crate::{ImageRefusal, Order, UsageKind};
+
+/// Why a job ended before its end.
+#[derive(Clone, Copy, Debug, PartialEq, Eq)]
+pub enum Fault {
+    /// The words are no line: the first that fails, counted from 0, and how.
+    Usage { index: u32, kind: UsageKind },
+    ImageRefused(ImageRefusal),
+    /// A call on a file failed.
+    FileFault,
+    /// A call on the image failed.
+    ImageFault,
+    NoMemory,
+    /// The file to be written holds so many bytes already.
+    NotEmpty { len: u64 },
+}
+
+impl Fault {
+    /// The exit status of the program.
+    pub fn status(self) -> u8
+        ensures { result ≡ fault_status self }
+    {
+        match self {
+            Fault::Usage { .. } => 1,
+            Fault::ImageRefused(_) => 2,
+            Fault::FileFault => 4,
+            Fault::ImageFault => 6,
+            Fault::NoMemory => 7,
+            Fault::NotEmpty { .. } => 8,
+        }
+    }
+}
+
+impl From<ImageFault> for Fault {
+    ghost from_gives = { λ e f. f ≡ fault_of_image e };
+
+    fn from(fault: ImageFault) -> Self {
+        match fault {
+            ImageFault::Refused(refusal) => Fault::ImageRefused(refusal),
+            ImageFault::ReadFault => Fault::ImageFault,
+            ImageFault::NoMemory => Fault::NoMemory,
+        }
+    }
+}
+
+impl From<SaveFault> for Fault {
+    ghost from_gives = { λ e f. f ≡ fault_of_save e };
+
+    fn from(fault: SaveFault) -> Self {
+        match fault {
+            SaveFault::FileFault => Fault::FileFault,
+            SaveFault::NotEmpty(len) => Fault::NotEmpty { len },
+            SaveFault::NoMemory => Fault::NoMemory,
+        }
+    }
+}
+
+/// How a job ended: the exit status, its fault if any, and the orders of the two phases.
+#[derive(Debug, Drop)]
+pub struct Answer {
+    pub status: u8,
+    pub fault: Option<Fault>,
+    pub first: Order,
+    pub second: Order,
+}

@@ -1,0 +1,28 @@
+//! The top calls of the program: a job from its words to its answer, generic over the outside world; and the
+//! adapters of real files and of the console.
+#![tactic(auto)]
+
+mod answer;
+mod arguments;
+mod counted;
+mod device_text;
+mod file_medium;
+mod file_source;
+mod head_text;
+mod image;
+mod job;
+mod order;
+mod out_sink;
+mod save;
+mod top;
+mod words;
+
+pub use answer::{Answer, Fault};
+pub use arguments::command_words;
+pub use file_medium::{FileMedium, Opening};
+pub use file_source::FileSource;
+pub use image::ImageRefusal;
+pub use order::Order;
+pub use out_sink::OutSink;
+pub use top::{rvsnap, rvsnap_still};
+pub use words::{UsageKind, value_of};
