@@ -3,6 +3,7 @@
 use Rattle.std.specs.Prelude.{◌≡◌, ℕ, zero, suc, ◌+◌, ◌-◌, ◌*◌, ◌/◌, ◌%◌, ◌^◌, ◌<◌, ◌&&◌, if◌then◌else◌, nat_le, nat_lt, List, [], ◌∷◌, ◌++◌, length, take, drop, map, replicate, slice_index, sum_by, codes, ◌==◌}
 use Rattle.std.specs.Int.{bit_at}
 use Rattle.std.specs.List.{range_with_len, list_all}
+use Rattle.ram_block.specs.Page.{zero_page}
 use Rattle.ram_block.specs.Shape.{ShapeData, ram_bytes_of}
 use Rattle.ram_block.specs.declared.page_buf.TheConstants.{PAGE}
 use Rattle.mig_stream.specs.Text.{be32, be64, start_text, part_text, footer_text}
@@ -41,7 +42,7 @@ pub record LaysPage (file : List ℕ) (m : Machine) (block p : ℕ) : Type 0 whe
   pub stands : page_bit file (block_places m.shape.pages block).bitmap p ≡ 1 →
       StandsAt file ((block_places m.shape.pages block).pages + PAGE * p) (page_of m (block * m.shape.pages + p))
   pub zeros : page_bit file (block_places m.shape.pages block).bitmap p ≡ 0 →
-      page_of m (block * m.shape.pages + p) ≡ replicate PAGE 0
+      page_of m (block * m.shape.pages + p) ≡ zero_page
 
 -- a block: its record and each of its pages
 pub record LaysBlock (file : List ℕ) (m : Machine) (block : ℕ) : Type 0 where
