@@ -1,5 +1,5 @@
 -- A page of zeros behind bytes from its start.
-use Rattle.std.proofs.Common.{◌≡◌, ℕ, ◌-◌, List, length, drop}
+use Rattle.std.proofs.Common.{◌≡◌, ℕ, ◌-◌, length, drop}
 use Rattle.std.specs.Prelude.{replicate}
 use Rattle.std.proofs.lemmas.List.{drop-replicate, length-replicate}
 use Rattle.ram_block.specs.Page.{zero_page}

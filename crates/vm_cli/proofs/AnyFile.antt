@@ -1,8 +1,8 @@
 -- The file that a save writes is a layout of its machine: what a layout asks of a file, piece by piece.
-use Rattle.std.proofs.Common.{◌≡◌, inl, inr, ℕ, zero, suc, ◌+◌, ◌-◌, ◌*◌, ◌/◌, ◌%◌, ◌<◌, ◌≤◌, true, false, List, [], ◌∷◌, ◌++◌, length, get_or, take, drop, refl, sym, ap, ◌∙◌, arith}
+use Rattle.std.proofs.Common.{◌≡◌, inl, inr, ℕ, zero, suc, ◌+◌, ◌-◌, ◌*◌, ◌/◌, ◌%◌, ◌<◌, ◌≤◌, List, [], ◌∷◌, ◌++◌, length, get_or, take, drop, refl, sym, ap, ◌∙◌, arith}
 use Rattle.std.specs.Prelude.{◌==◌, nat_lt, if◌then◌else◌}
 use Rattle.std.specs.Int.{bit_at}
-use Rattle.std.specs.List.{range_with_len, list_all}
+use Rattle.std.specs.List.{list_all}
 use Rattle.std.proofs.lemmas.Bool.{cases_Bool, cond-true, cond-false, lt-ltb}
 use Rattle.std.proofs.lemmas.List.{ext_get_or, length-take, length-drop, get_or-take, get_or-drop, get_or-replicate}
 use Rattle.std.proofs.lemmas.List.FromFn.{length-map-range_with_len, get_or-map-range_with_len}
@@ -11,7 +11,7 @@ use Rattle.file_plan.specs.Plan.{record_place, block_places, tail_place}
 use Rattle.file_plan.proofs.Records.{record_place_first, record_place_more}
 use Rattle.mapped_ram_header.specs.Places.{bitmap_len}
 use Rattle.ram_block.specs.Page.{zero_page}
-use Rattle.ram_block.specs.Shape.{IsShape, ram_bytes_of}
+use Rattle.ram_block.specs.Shape.{IsShape}
 use Rattle.ram_block.proofs.Pages.{length-zero_page}
 use Rattle.vm_cli.specs.Machine.{Machine, IsSized, Rest, page_of}
 use Rattle.vm_cli.specs.DeviceText.{Two, device_text}

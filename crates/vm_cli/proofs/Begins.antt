@@ -1,5 +1,5 @@
 -- What `starts_with` says of two texts.
-use Rattle.std.proofs.Common.{◌≡◌, true, false, List, ℕ, length, take, drop, nat_eq, Option, Some, None, refl, sym, ap, ◌∙◌}
+use Rattle.std.proofs.Common.{◌≡◌, true, false, List, ℕ, length, take, drop, nat_eq, Some, None, refl, sym, ap, ◌∙◌}
 use Rattle.std.specs.List.{starts_with}
 use Rattle.std.specs.Str.Pattern.{FindsTextPrefix, StripsPrefix}
 use Rattle.std.proofs.lemmas.Bool.{cond-true, cond-false}

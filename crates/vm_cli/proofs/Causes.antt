@@ -1,5 +1,5 @@
 -- The cause of each fault of a save, by cases on the fault.
-use Rattle.std.proofs.Common.{◌≡◌, ◌⊎◌, inl, inr, ℕ, ◌+◌, ◌<◌, ◌≤◌, List, [], ◌∷◌, length, Option, Some, None, Result, Ok, Err, refl, sym, ap, subst, ◌∙◌, arith}
+use Rattle.std.proofs.Common.{◌≡◌, inl, inr, ℕ, ◌+◌, ◌<◌, ◌≤◌, List, [], ◌∷◌, length, Option, Some, None, Result, Ok, Err, refl, sym, ap, subst, ◌∙◌, arith}
 use Rattle.std.proofs.Common.{Bool, cond, true, false}
 use Rattle.std.specs.Prelude.{nat_lt, nat_eq, IfSome, IfOk}
 use Rattle.std.specs.List.{starts_with}
@@ -11,7 +11,6 @@ use Rattle.vm_cli.specs.Image.{image_of, flat_of, behind}
 use Rattle.vm_cli.specs.Layout.{file_of}
 use Rattle.vm_cli.specs.Machine.{boot, one_page}
 use Rattle.vm_cli.specs.Words.{IsFirstSave}
-use Rattle.vm_cli.specs.declared.answer.Fault.{Fault}
 use Rattle.vm_cli.specs.declared.image.ImageRefusal.{ImageRefusal}
 use Rattle.vm_cli.specs.declared.image.ImageRefusal.TheVariants.{NotYet, TooLong}
 use Rattle.vm_cli.specs.declared.image.TheConstants.{MOST_IMAGE, ELF_MAGIC}

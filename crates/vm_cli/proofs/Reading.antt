@@ -3,7 +3,7 @@ use Rattle.std.proofs.Common.{◌≡◌, ℕ, ◌+◌, ◌<◌, ◌≤◌, Bool,
 use Rattle.std.proofs.lemmas.Bool.{le-ltb}
 use Rattle.std.proofs.lemmas.List.{length-take, length-drop, take_all, drop_all, drop-drop}
 use Rattle.std.proofs.Math.Seq.{take-add}
-use Rattle.medium.specs.Bytes.{TakesFrom, TakesFront}
+use Rattle.medium.specs.Bytes.{TakesFrom}
 use Rattle.vm_cli.specs.declared.image.ImageRefusal.TheVariants.{TooLong}
 use Rattle.vm_cli.specs.Image.{behind, raw_of, Moves, MovesBytes, ReadsOn}
 

@@ -1,5 +1,5 @@
 -- A file of which nothing is known may be left as anything.
-use Rattle.std.proofs.Common.{◌≡◌, ℕ, List, length, refl, arith}
+use Rattle.std.proofs.Common.{ℕ, List, refl, arith}
 use Rattle.std.proofs.lemmas.List.{take_min}
 use Rattle.medium.specs.Crash.{Torn, Follows}
 

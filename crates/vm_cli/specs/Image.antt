@@ -1,6 +1,6 @@
 -- The image of a machine, of a source's bytes (this project's own limits, docs/COMMAND_LINE.md; the first bytes
 -- of an ELF file, ELF-64 Object File Format, version 1.5, ELF Identification).
-use Rattle.std.specs.Prelude.{◌≡◌, ℕ, ◌+◌, ◌≤◌, List, [], ◌∷◌, ◌++◌, length, take, drop, Option, Some, None, IsSomeAnd, Result, Ok, Err, if◌then◌else◌, nat_lt, nat_eq}
+use Rattle.std.specs.Prelude.{◌≡◌, ℕ, ◌+◌, ◌≤◌, List, [], ◌∷◌, ◌++◌, length, take, drop, Option, Some, None, Result, Ok, Err, if◌then◌else◌, nat_lt, nat_eq}
 use Rattle.std.specs.List.{starts_with}
 use Rattle.ram_block.specs.Shape.{ShapeData, ram_bytes_of}
 use Rattle.vm_cli.specs.declared.image.TheConstants.{MOST_IMAGE, ELF_MAGIC}

@@ -1,13 +1,13 @@
 -- A snapshot file and the machine that it stands for, by places (this project's own file layout,
 -- docs/FILE_FORMAT.md).
-use Rattle.std.specs.Prelude.{◌≡◌, ℕ, zero, suc, ◌+◌, ◌-◌, ◌*◌, ◌/◌, ◌%◌, ◌^◌, ◌<◌, ◌&&◌, if◌then◌else◌, nat_le, nat_lt, List, [], ◌∷◌, ◌++◌, length, take, drop, map, replicate, slice_index, sum_by, codes, ◌==◌}
+use Rattle.std.specs.Prelude.{◌≡◌, ℕ, zero, suc, ◌+◌, ◌-◌, ◌*◌, ◌/◌, ◌%◌, ◌^◌, ◌<◌, ◌&&◌, if◌then◌else◌, nat_le, nat_lt, List, [], ◌∷◌, ◌++◌, length, take, drop, map, slice_index, sum_by, codes, ◌==◌}
 use Rattle.std.specs.Int.{bit_at}
 use Rattle.std.specs.List.{range_with_len, list_all}
 use Rattle.ram_block.specs.Page.{zero_page}
 use Rattle.ram_block.specs.Shape.{ShapeData, ram_bytes_of}
 use Rattle.ram_block.specs.declared.page_buf.TheConstants.{PAGE}
 use Rattle.mig_stream.specs.Text.{be32, be64, start_text, part_text, footer_text}
-use Rattle.mig_stream.specs.declared.put.TheConstants.{START, END, FULL}
+use Rattle.mig_stream.specs.declared.put.TheConstants.{START, END}
 use Rattle.mapped_ram_header.specs.Header.{header_bytes}
 use Rattle.mapped_ram_header.specs.Places.{bitmap_len}
 use Rattle.file_plan.specs.Plan.{record_place, block_places, tail_place}

@@ -1,6 +1,6 @@
 -- The machine as plain data: one flat list of bytes, vCPUs, devices and a clock (RISC-V Unprivileged ISA for
 -- the vCPUs; this project's own devices and boot values, docs/MACHINE.md).
-use Rattle.std.specs.Prelude.{◌≡◌, ℕ, ◌+◌, ◌-◌, ◌*◌, ◌^◌, ◌≤◌, List, [], ◌∷◌, ◌++◌, length, take, drop, map, replicate, slice_set, Option, None, All}
+use Rattle.std.specs.Prelude.{◌≡◌, ℕ, ◌-◌, ◌*◌, ◌^◌, ◌≤◌, List, [], ◌++◌, length, take, drop, map, replicate, slice_set, Option, None, All}
 use Rattle.std.specs.List.{range_with_len}
 use Rattle.ram_block.specs.Shape.{ShapeData, ram_bytes_of}
 use Rattle.ram_block.specs.declared.cause.Cause.{Cause}

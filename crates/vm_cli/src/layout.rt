@@ -6,5 +6,4 @@ ghost use Rattle.vm_cli.specs.Machine.{IsSized, Machine, Rest};
 /// rest.
 pub fn file_of_is_a_layout()
     ensures { (m : Machine) → IsShape m.shape → IsSized m → Rest m → Lay (file_of m) m }
-{
-}
+{}

@@ -1,5 +1,5 @@
 -- What one answer of the source moved.
-use Rattle.std.proofs.Common.{◌≡◌, ◌≤◌, ◌<◌, ℕ, Option, List, length, arith, subst, sym}
+use Rattle.std.proofs.Common.{ℕ, Option, List, length, arith, subst, sym}
 use Rattle.vm_cli.specs.Image.{ReadsOn}
 use Rattle.vm_cli.proofs.Reading.{reads_none, took, took_on}
 use Rattle.vm_cli.proofs.image.next_piece.Goals as goal

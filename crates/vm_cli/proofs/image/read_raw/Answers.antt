@@ -1,7 +1,7 @@
 -- Reading goes on from the front of the source; where no more comes, all was read.
-use Rattle.std.proofs.Common.{◌≡◌, ◌≤◌, ◌<◌, ◌+◌, ◌++◌, ℕ, List, length, vec_len, take, arith, rules, refl, ap, sym, ◌∙◌, subst}
+use Rattle.std.proofs.Common.{◌+◌, length, take, arith}
 use Rattle.std.proofs.lemmas.List.{length-take}
-use Rattle.vm_cli.proofs.Reading.{HasRead, ended, read_more, read_none, reads_none, reads_on}
+use Rattle.vm_cli.proofs.Reading.{ended, read_more, read_none, reads_none, reads_on}
 use Rattle.vm_cli.proofs.image.read_raw.Goals as goal
 
 pub returns-in_err-piece-clause-read : goal.returns-in_err-piece-clause-read

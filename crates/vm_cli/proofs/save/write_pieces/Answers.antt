@@ -1,6 +1,6 @@
 -- The writes one after another, on a file that was empty.
-use Rattle.std.proofs.Common.{◌≡◌, ◌<◌, ℕ, List, [], length, Option, Some, refl, ap, subst, sym, ◌∙◌, arith}
-use Rattle.std.specs.Prelude.{IfSome, option_map}
+use Rattle.std.proofs.Common.{◌≡◌, ℕ, List, [], length, Option, Some, ap, subst, ◌∙◌, arith}
+use Rattle.std.specs.Prelude.{IfSome}
 use Rattle.medium.specs.Bytes.{written}
 use Rattle.std.proofs.lemmas.List.{nil_from_length, take_rest}
 use Rattle.vm_cli.specs.FirstSave.{laid, with_page}
