@@ -4,6 +4,7 @@
 
 mod cause;
 mod gate;
+mod locate;
 mod no_memory;
 mod page_buf;
 mod place;

@@ -26,3 +26,107 @@ fn a_shape_knows_its_limits(rt: HostRuntime) -> Result<(), Fail> {
     }
     Ok(())
 }
+
+// What an access answers where RAM is two blocks of three pages, and so ends before 0x8000_6000.
+#[rattlefmt::skip]
+static EDGES: [(u64, Width, Way, Result<Place, Cause>); 22] = [
+    (0, Width::One, Way::Load, Err(Cause::LoadOutside)),
+    (0x7fff_ffff, Width::One, Way::Store, Err(Cause::StoreOutside)),
+    (0x7fff_fffc, Width::Four, Way::Fetch, Err(Cause::FetchOutside)),
+    (0x7fff_fffc, Width::Eight, Way::Load, Err(Cause::LoadMisaligned)),
+    (0x8000_0000, Width::One, Way::Store, Ok(Place::Ram { page: 0, off: 0 })),
+    (0x8000_0000, Width::Four, Way::Fetch, Ok(Place::Ram { page: 0, off: 0 })),
+    (0x8000_0ffe, Width::Two, Way::Load, Ok(Place::Ram { page: 0, off: 4094 })),
+    (0x8000_0ffe, Width::Four, Way::Load, Err(Cause::LoadMisaligned)),
+    (0x8000_3008, Width::Eight, Way::Amo, Ok(Place::Ram { page: 3, off: 8 })),
+    (0x8000_5ff8, Width::Eight, Way::Amo, Ok(Place::Ram { page: 5, off: 4088 })),
+    (0x8000_5ffc, Width::Four, Way::Fetch, Ok(Place::Ram { page: 5, off: 4092 })),
+    (0x8000_5ffc, Width::Eight, Way::Store, Err(Cause::StoreMisaligned)),
+    (0x8000_5ffe, Width::Two, Way::Store, Ok(Place::Ram { page: 5, off: 4094 })),
+    (0x8000_5ffe, Width::Four, Way::Fetch, Err(Cause::FetchMisaligned)),
+    (0x8000_5fff, Width::One, Way::Load, Ok(Place::Ram { page: 5, off: 4095 })),
+    (0x8000_5fff, Width::Two, Way::Load, Err(Cause::LoadMisaligned)),
+    (0x8000_6000, Width::One, Way::Load, Err(Cause::LoadOutside)),
+    (0x8000_6000, Width::Four, Way::Fetch, Err(Cause::FetchOutside)),
+    (0x8000_6000, Width::Four, Way::Amo, Err(Cause::StoreOutside)),
+    (0xffff_ffff_ffff_fffc, Width::Eight, Way::Amo, Err(Cause::StoreMisaligned)),
+    (0xffff_ffff_ffff_fff8, Width::Eight, Way::Load, Err(Cause::LoadOutside)),
+    (0xffff_ffff_ffff_ffff, Width::One, Way::Store, Err(Cause::StoreOutside)),
+];
+
+#[test]
+fn accesses_at_the_edges_of_ram(rt: HostRuntime) -> Result<(), Fail> {
+    let shape = Shape::new(1, 2, 3)?;
+    for &(addr, width, way, answer) in &EDGES {
+        assert_eq!(rt; shape.locate(addr, width, way), answer, "at {addr:x}");
+    }
+    let largest = Shape::new(8, 8, 2048)?;
+    let last = Place::Ram {
+        page: 16_383,
+        off: 4095,
+    };
+    assert_eq!(rt;
+        largest.locate(0x83ff_ffff, Width::One, Way::Load),
+        Ok(last)
+    );
+    assert_eq!(rt;
+        largest.locate(0x8400_0000, Width::One, Way::Load),
+        Err(Cause::LoadOutside)
+    );
+    Ok(())
+}
+
+// The memory map's rows, each an address, a width, a way and a register.
+#[rattlefmt::skip]
+static ROWS: [(u64, Width, Way, Place); 7] = [
+    (0x1000_0000, Width::One, Way::Store, Place::Serial(SerialReg::Tx)),
+    (0x1000_0000, Width::One, Way::Load, Place::Serial(SerialReg::Rx)),
+    (0x1000_0005, Width::One, Way::Load, Place::Serial(SerialReg::Status)),
+    (0x0200_0000, Width::Eight, Way::Load, Place::Timer(TimerReg::Time)),
+    (0x0200_0008, Width::Eight, Way::Load, Place::Timer(TimerReg::Cmp)),
+    (0x0200_0008, Width::Eight, Way::Store, Place::Timer(TimerReg::Cmp)),
+    (0x0200_0010, Width::Eight, Way::Load, Place::Timer(TimerReg::Due)),
+];
+
+static WIDTHS: [(Width, u64); 4] = [
+    (Width::One, 1),
+    (Width::Two, 2),
+    (Width::Four, 4),
+    (Width::Eight, 8),
+];
+
+static WAYS: [(Way, Cause, Cause); 4] = [
+    (Way::Fetch, Cause::FetchMisaligned, Cause::FetchOutside),
+    (Way::Load, Cause::LoadMisaligned, Cause::LoadOutside),
+    (Way::Store, Cause::StoreMisaligned, Cause::StoreOutside),
+    (Way::Amo, Cause::StoreMisaligned, Cause::StoreOutside),
+];
+
+#[test]
+fn a_device_has_the_rows_of_the_map_and_no_other_access(rt: HostRuntime) -> Result<(), Fail> {
+    let shape = Shape::new(1, 1, 1)?;
+    for addr in [
+        0x1000_0000,
+        0x1000_0005,
+        0x0200_0000,
+        0x0200_0008,
+        0x0200_0010,
+    ] {
+        for &(width, bytes) in &WIDTHS {
+            for &(way, misaligned, outside) in &WAYS {
+                let mut answer = Err(if addr % bytes == 0 {
+                    outside
+                } else {
+                    misaligned
+                });
+                for row in &ROWS {
+                    if row.0 == addr && row.1 == width && row.2 == way {
+                        answer = Ok(row.3);
+                    }
+                }
+                assert_eq!(rt; shape.locate(addr, width, way), answer, "at {addr:x}");
+            }
+        }
+    }
+    Ok(())
+}
