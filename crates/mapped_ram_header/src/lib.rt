@@ -2,11 +2,13 @@
 #![tactic(auto)]
 
 mod block;
+mod fault;
 mod header;
 mod place;
 
 pub use block::Places;
-pub use header::{HEADER_LEN, HEADER_VERSION, put_header};
+pub use fault::HeaderFault;
+pub use header::{HEADER_LEN, HEADER_VERSION, get_header, put_header};
 pub use place::{PAGES_ALIGN, places};
 
 #[cfg(test)]

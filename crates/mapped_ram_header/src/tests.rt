@@ -30,3 +30,36 @@ fn a_header_has_its_bytes(rt: HostRuntime) {
     ];
     assert_eq!(rt; bytes.as_slice(), wanted.as_slice());
 }
+
+// The header of a block of one page at 60, with one byte more in each of the fields named.
+fn header_with(fields: &[usize]) -> [u8; 28] {
+    let mut bytes = [
+        0, 0, 0, 1, 0, 0, 0, 0, 0, 0, 0x10, 0, 0, 0, 0, 0, 0, 0, 0, 0x58, 0, 0, 0, 0, 0, 0x10, 0, 0,
+    ];
+    for &last in fields {
+        if last < 28 {
+            bytes[last] = 7;
+        }
+    }
+    bytes
+}
+
+#[test]
+fn the_first_wrong_field_is_named(rt: HostRuntime) {
+    let block = places(60, 1);
+    let version = HeaderFault::Version(7);
+    let page = HeaderFault::PageSize(0x1007);
+    let bitmap = HeaderFault::BitmapOffset(7);
+    let pages = HeaderFault::PagesOffset(0x10_0007);
+    assert_eq!(rt; get_header(&header_with(&[]), &block), Ok(()));
+    assert_eq!(rt; get_header(&header_with(&[3]), &block), Err(version));
+    assert_eq!(rt; get_header(&header_with(&[11]), &block), Err(page));
+    assert_eq!(rt; get_header(&header_with(&[19]), &block), Err(bitmap));
+    assert_eq!(rt; get_header(&header_with(&[27]), &block), Err(pages));
+    assert_eq!(rt; get_header(&header_with(&[3, 11]), &block), Err(version));
+    assert_eq!(rt; get_header(&header_with(&[3, 19]), &block), Err(version));
+    assert_eq!(rt; get_header(&header_with(&[3, 27]), &block), Err(version));
+    assert_eq!(rt; get_header(&header_with(&[11, 19]), &block), Err(page));
+    assert_eq!(rt; get_header(&header_with(&[11, 27]), &block), Err(page));
+    assert_eq!(rt; get_header(&header_with(&[19, 27]), &block), Err(bitmap));
+}

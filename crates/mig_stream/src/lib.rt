@@ -1,10 +1,16 @@
 //! The pieces of a stream of sections: a text is appended, or a piece is read whole and then checked.
-//! It stands on `ram_block`.
+//! It stands on `ram_block` and `medium`.
 #![tactic(auto)]
 
+mod field_fault;
+mod field_reader;
 mod put;
+mod text_fault;
 
+pub use field_fault::FieldFault;
+pub use field_reader::FieldReader;
 pub use put::{END, EOF, FOOTER, FULL, START, put_be32, put_be64, put_footer, put_part, put_start};
+pub use text_fault::TextFault;
 
 #[cfg(test)]
 mod tests;

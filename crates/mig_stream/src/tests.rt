@@ -1,5 +1,46 @@
+ghost use Rattle.std.specs.Prelude.{◌≤◌, length, None};
+
 use super::*;
+use medium::{FailPlan, Failed, MemBytes, MemMedium, Readable};
 use std::test::Fail;
+
+// A file that doesn't tell its bytes, and gives one of them a call.
+#[derive(Drop)]
+struct OneByteReads {
+    bytes: Vec<u8>,
+}
+
+impl Readable for OneByteReads {
+    ghost told = { λ _. None };
+
+    ghost faults = { λ _. 0 };
+
+    ghost syncs = { λ _. 0 };
+
+    ghost may_leave = { λ _ _. Unit {0} };
+
+    ghost moment = { λ _. 0 };
+
+    ghost left_since = { λ _ _ _. Unit {0} };
+
+    fn len(&mut self) -> Result<u64, Failed> {
+        Ok(self.bytes.len() as u64)
+    }
+
+    fn read_at(&mut self, at: u64, buf: &mut [u8]) -> Result<usize, Failed> {
+        if buf.is_empty() || at >= self.bytes.len() as u64 {
+            return Ok(0);
+        }
+        buf[0] = self.bytes[at as usize];
+        Ok(1)
+    }
+
+    ghost told_is_image = { λ _ _ _. tt };
+
+    ghost now_counts = { λ _ _ _ _ _. tt };
+
+    ghost only_now = { λ _ _ _. tt };
+}
 
 #[test]
 fn a_section_header_has_its_bytes(rt: HostRuntime) -> Result<(), Fail> {
@@ -14,5 +55,129 @@ fn a_section_header_has_its_bytes(rt: HostRuntime) -> Result<(), Fail> {
         0, 0, 2, 0x51, 0x45, 0x56, 0x4d, 0, 0, 0, 0, 0, 0, 0x10, 0x04,
     ];
     assert_eq!(rt; out.as_slice(), text.as_slice());
+    Ok(())
+}
+
+// A piece of three bytes, or none where it could not be read, and where the next piece begins.
+fn take_three<M: Readable>(medium: &mut M, at: u8) -> (Result<[u8; 3], FieldFault>, u64) {
+    let mut reader = FieldReader::new(medium, u64::from(at));
+    let mut buf = [0; 3];
+    let taken = reader.take(&mut buf);
+    (taken.map(|()| buf), reader.at())
+}
+
+// What is answered where a text is expected, and where the next piece begins.
+fn expect_text<M: Readable>(medium: &mut M, at: u8, text: &[u8]) -> (Result<(), TextFault>, u64)
+    requires { length text.now ≤ 200 }
+{
+    let mut reader = FieldReader::new(medium, 0);
+    reader.seek(u64::from(at));
+    let answer = reader.expect(text);
+    (answer, reader.at())
+}
+
+#[test]
+fn a_piece_is_read_whole_or_not_at_all(rt: HostRuntime) -> Result<(), Fail> {
+    let alloc = rt.alloc();
+    let mut file = MemBytes::new(vec![in alloc; 1, 2, 3, 4, 5]?);
+    assert_eq!(rt; take_three(&mut file, 0), (Ok([1, 2, 3]), 3));
+    assert_eq!(rt; take_three(&mut file, 2), (Ok([3, 4, 5]), 5));
+    for at in [3, 4, 5, 9] {
+        let cut = FieldFault::Truncated { at: u64::from(at) };
+        assert_eq!(rt; take_three(&mut file, at), (Err(cut), u64::from(at)));
+    }
+    Ok(())
+}
+
+#[test]
+fn a_read_that_fails_leaves_the_place(rt: HostRuntime) -> Result<(), Fail> {
+    let alloc = rt.alloc();
+    let plan = FailPlan {
+        calls: vec![in alloc; 1, 3]?,
+        from: None,
+    };
+    let mut file = MemMedium::new(alloc, vec![in alloc; 1, 2, 3, 4]?, 8, 1, plan)?;
+    assert_eq!(rt; take_three(&mut file, 0), (Err(FieldFault::ReadFault), 0));
+    assert_eq!(rt; take_three(&mut file, 0), (Ok([1, 2, 3]), 3));
+    let fault = TextFault::Field(FieldFault::ReadFault);
+    assert_eq!(rt; expect_text(&mut file, 1, &[2, 3, 4]), (Err(fault), 1));
+    assert_eq!(rt; expect_text(&mut file, 1, &[2, 3, 4]), (Ok(()), 4));
+    Ok(())
+}
+
+#[test]
+fn the_first_byte_that_differs_is_named(rt: HostRuntime) -> Result<(), Fail> {
+    let alloc = rt.alloc();
+    let mut file = MemBytes::new(vec![in alloc; 9, 1, 2, 3]?);
+    assert_eq!(rt; expect_text(&mut file, 1, &[1, 2, 3]), (Ok(()), 4));
+    for (text, at, found) in [([7, 2, 7], 1, 1), ([1, 7, 7], 2, 2), ([1, 2, 7], 3, 3)] {
+        let differs = TextFault::Differs { at, found };
+        assert_eq!(rt; expect_text(&mut file, 1, &text), (Err(differs), 1));
+    }
+    let cut = TextFault::Field(FieldFault::Truncated { at: 1 });
+    assert_eq!(rt; expect_text(&mut file, 1, &[7, 2, 3, 4]), (Err(cut), 1));
+    Ok(())
+}
+
+#[test]
+fn reads_of_one_byte_fill_a_piece(rt: HostRuntime) -> Result<(), Fail> {
+    let alloc = rt.alloc();
+    let mut file = OneByteReads {
+        bytes: vec![in alloc; 9, 1, 2, 3]?,
+    };
+    assert_eq!(rt; take_three(&mut file, 1), (Ok([1, 2, 3]), 4));
+    assert_eq!(rt; expect_text(&mut file, 1, &[1, 2, 3]), (Ok(()), 4));
+    let differs = TextFault::Differs { at: 2, found: 2 };
+    assert_eq!(rt; expect_text(&mut file, 1, &[1, 7, 7]), (Err(differs), 1));
+    Ok(())
+}
+
+#[test]
+fn a_file_that_ends_in_a_piece_is_cut(rt: HostRuntime) -> Result<(), Fail> {
+    let alloc = rt.alloc();
+    let mut file = OneByteReads {
+        bytes: Vec::new(alloc),
+    };
+    for byte in [9, 1, 2] {
+        file.bytes.push(byte)?;
+        let cut = FieldFault::Truncated { at: 1 };
+        assert_eq!(rt; take_three(&mut file, 1), (Err(cut), 1));
+        let cut_text = TextFault::Field(cut);
+        assert_eq!(rt; expect_text(&mut file, 1, &[1, 2, 3]), (Err(cut_text), 1));
+        assert_eq!(rt; expect_text(&mut file, 1, &[7, 7, 7]), (Err(cut_text), 1));
+    }
+    file.bytes.push(3)?;
+    assert_eq!(rt; take_three(&mut file, 1), (Ok([1, 2, 3]), 4));
+    assert_eq!(rt; expect_text(&mut file, 1, &[1, 2, 3]), (Ok(()), 4));
+    Ok(())
+}
+
+#[test]
+fn a_text_of_several_turns_is_compared_whole(rt: HostRuntime) -> Result<(), Fail> {
+    let alloc = rt.alloc();
+    let mut text = [0; 130];
+    for i in 0..text.len() {
+        text[i] = i as u8;
+    }
+    let mut file = OneByteReads {
+        bytes: Vec::new(alloc),
+    };
+    file.bytes.extend_from_slice(&text)?;
+    for len in [0, 1, 63, 64, 65, 128, 129, 130] {
+        let answer = expect_text(&mut file, 0, &text[..len]);
+        assert_eq!(rt; answer, (Ok(()), len as u64));
+    }
+    for i in [0, 63, 64, 127, 128, 129] {
+        let mut other = text;
+        other[i] = 255;
+        other[129] = 255;
+        let differs = TextFault::Differs {
+            at: i as u64,
+            found: i as u8,
+        };
+        assert_eq!(rt; expect_text(&mut file, 0, &other), (Err(differs), 0));
+    }
+    let cut = TextFault::Field(FieldFault::Truncated { at: 1 });
+    assert_eq!(rt; expect_text(&mut file, 1, &text), (Err(cut), 1));
     Ok(())
 }
