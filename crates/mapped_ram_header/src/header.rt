@@ -26,7 +26,7 @@ pub fn put_header(places: &Places) -> [u8; HEADER_LEN]
 /// Whether these are a block's mapped-ram header: the first field that differs, if one does.
 pub fn get_header(bytes: &[u8; HEADER_LEN], places: &Places) -> Result<(), HeaderFault>
     ensures first_fault { result ≡ header_fault bytes.now places.now }
-    ensures read_back { IsOk result ↔ bytes.now ≡ header_bytes places.now }
+    ensures read_back { IsOk result ↔ (bytes.now ≡ header_bytes places.now) }
 {
     let version = u32_at(bytes, 0);
     if version != HEADER_VERSION {

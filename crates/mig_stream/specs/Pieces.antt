@@ -9,6 +9,11 @@ use Rattle.mig_stream.specs.declared.text_fault.TextFault.TheVariants.{Field, Di
 abbrev pub Has : List ℕ → ℕ → List ℕ → Type 0
 Has file at piece = take (length piece) (drop at file) ≡ piece
 
+-- wherever a file has the text of a number below the limit and these bytes, the bytes are the text, and the number
+-- that was read from them is the one that was put
+abbrev pub ReadsBack : (ℕ → List ℕ) → ℕ → List ℕ → ℕ → Type 0
+ReadsBack text limit bytes number = (file : List ℕ) (at v : ℕ) → v < limit → Has file at (text v) → Has file at bytes → (bytes ≡ text v) × (number ≡ v)
+
 -- the file has fewer bytes from the place on than the piece
 abbrev pub EndsIn : List ℕ → ℕ → ℕ → Type 0
 EndsIn file at len = length file - at < len

@@ -11,11 +11,13 @@ use medium::{Failed, Readable};
 // How many bytes are read and compared in one turn.
 const TURN: usize = 64;
 
-/// Reads a file piece by piece, each whole.
+/// Reads a file piece by piece, each whole: a file that it borrows, and a place in it.
 #[derive(Drop)]
 pub struct FieldReader<'a, M> {
-    pub(crate) medium: &'a mut M,
-    pub(crate) at: u64,
+    /// The file that is read.
+    pub medium: &'a mut M,
+    /// Where the next piece begins, in bytes from the file's start.
+    pub at: u64,
 }
 
 impl<'a, M: Readable> FieldReader<'a, M> {
@@ -50,6 +52,7 @@ impl<'a, M: Readable> FieldReader<'a, M> {
         ensures whole { IfOk result (λ _. IfSome (M.told self.old.medium.now) (λ file. Has file self.old.at buf.new)) }
         ensures faults { IsErr result → (result ≡ Err (Truncated self.old.at)) ⊎ (result ≡ Err ReadFault) }
         ensures truncated { result ≡ Err (Truncated self.old.at) → IfSome (M.told self.old.medium.now) (λ file. EndsIn file self.old.at (length buf.old)) }
+        ensures cut { IfSome (M.told self.old.medium.now) (λ file. EndsIn file self.old.at (length buf.old) → IsErr result) }
         ensures read_fault { result ≡ Err ReadFault → HasRisen (M.faults self.old.medium.now) (M.faults self.new.medium.now) }
         ensures never_falls { M.faults self.old.medium.now ≤ M.faults self.new.medium.now }
         ensures at { self.new.at ≡ (if is_ok result then self.old.at + length buf.old else self.old.at) }
@@ -77,6 +80,7 @@ impl<'a, M: Readable> FieldReader<'a, M> {
         ensures answer { IfSome (M.told self.old.medium.now) (λ file. Expects file self.old.at text.now result) }
         ensures differs { (p found : ℕ) → result ≡ Err (Differs p found) → (self.old.at ≤ p) × IsOther text.now (p - self.old.at) found }
         ensures start { (p : ℕ) → result ≡ Err (Field (Truncated p)) → p ≡ self.old.at }
+        ensures cut { IfSome (M.told self.old.medium.now) (λ file. EndsIn file self.old.at (length text.now) → (result ≡ Err (Field (Truncated self.old.at))) ⊎ (result ≡ Err (Field ReadFault))) }
         ensures read_fault { result ≡ Err (Field ReadFault) → HasRisen (M.faults self.old.medium.now) (M.faults self.new.medium.now) }
         ensures never_falls { M.faults self.old.medium.now ≤ M.faults self.new.medium.now }
         ensures at { self.new.at ≡ (if is_ok result then self.old.at + length text.now else self.old.at) }

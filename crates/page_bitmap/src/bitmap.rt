@@ -1,4 +1,4 @@
-ghost use Rattle.std.specs.Prelude.{◌≡◌, ℕ, ◌+◌, ◌*◌, ◌%◌, ◌^◌, ◌<◌, ◌≤◌, length, true, false, replicate, IfOk, slice_index_or, slice_set};
+ghost use Rattle.std.specs.Prelude.{◌≡◌, ℕ, ◌+◌, ◌*◌, ◌%◌, ◌^◌, ◌<◌, ◌≤◌, Bool, List, length, true, false, replicate, IfOk, slice_index_or, slice_set};
 ghost use Rattle.page_bitmap.specs.Bitmap.{byte_len_of};
 
 use ram_block::NoMemory;
@@ -72,10 +72,12 @@ impl Bitmap {
         out.copy_from_slice(&self.bytes);
     }
 
-    /// Takes the bits from the bytes of a file. The bits past the last page are ignored.
+    /// Takes the bits from the bytes of a file: from those that another bitmap of as many pages put, its bits. The
+    /// bits past the last page are ignored.
     pub fn get_bytes(&mut self, bytes: &[u8])
         requires { length bytes.now ≡ byte_len_of self.old.pages }
         ensures bits { self.new ≡ record { pages = self.old.pages; bits = bits_of self.old.pages bytes.now } }
+        ensures read_back { (put : List Bool) → length put ≡ self.old.pages → bytes.now ≡ bytes_of self.old.pages put → self.new.bits ≡ put }
         ensures kept { length self.new.bits ≡ self.new.pages }
     {
         for (i, byte) in bytes.iter().enumerate() {
