@@ -81,6 +81,7 @@ impl<'a, M: Readable> FieldReader<'a, M> {
         ensures differs { (p found : ℕ) → result ≡ Err (Differs p found) → (self.old.at ≤ p) × IsOther text.now (p - self.old.at) found }
         ensures start { (p : ℕ) → result ≡ Err (Field (Truncated p)) → p ≡ self.old.at }
         ensures cut { IfSome (M.told self.old.medium.now) (λ file. EndsIn file self.old.at (length text.now) → (result ≡ Err (Field (Truncated self.old.at))) ⊎ (result ≡ Err (Field ReadFault))) }
+        ensures same { IfSome (M.told self.old.medium.now) (λ file. Has file self.old.at text.now → (result ≡ Ok tt) ⊎ (result ≡ Err (Field ReadFault))) }
         ensures read_fault { result ≡ Err (Field ReadFault) → HasRisen (M.faults self.old.medium.now) (M.faults self.new.medium.now) }
         ensures never_falls { M.faults self.old.medium.now ≤ M.faults self.new.medium.now }
         ensures at { self.new.at ≡ (if is_ok result then self.old.at + length text.now else self.old.at) }

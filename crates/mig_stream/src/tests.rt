@@ -4,16 +4,29 @@ use super::*;
 use medium::{FailPlan, Failed, MemBytes, MemMedium, Readable};
 use std::test::Fail;
 
-// A file that doesn't tell its bytes, and gives one of them a call.
+// A file that doesn't tell its bytes, and gives one of them a read, but for the one read that fails.
 #[derive(Drop)]
 struct OneByteReads {
     bytes: Vec<u8>,
+    // Reads are numbered from 1.
+    failing: u64,
+    reads: u64,
+    faults: u64,
+}
+
+fn one_byte_reads(bytes: Vec<u8>, failing: u64) -> OneByteReads {
+    OneByteReads {
+        bytes,
+        failing,
+        reads: 0,
+        faults: 0,
+    }
 }
 
 impl Readable for OneByteReads {
     ghost told = { λ _. None };
 
-    ghost faults = { λ _. 0 };
+    ghost faults = { λ file. file.faults };
 
     ghost syncs = { λ _. 0 };
 
@@ -28,6 +41,11 @@ impl Readable for OneByteReads {
     }
 
     fn read_at(&mut self, at: u64, buf: &mut [u8]) -> Result<usize, Failed> {
+        self.reads = self.reads.saturating_add(1);
+        if self.reads == self.failing {
+            self.faults = self.faults.saturating_add(1);
+            return Err(Failed);
+        }
         if buf.is_empty() || at >= self.bytes.len() as u64 {
             return Ok(0);
         }
@@ -106,6 +124,39 @@ fn a_read_that_fails_leaves_the_place(rt: HostRuntime) -> Result<(), Fail> {
 }
 
 #[test]
+fn each_read_of_a_piece_may_fail(rt: HostRuntime) -> Result<(), Fail> {
+    let alloc = rt.alloc();
+    for failing in 1..=3 {
+        let mut file = one_byte_reads(vec![in alloc; 9, 1, 2, 3]?, failing);
+        assert_eq!(rt; take_three(&mut file, 1), (Err(FieldFault::ReadFault), 1));
+        assert_eq!(rt; take_three(&mut file, 1), (Ok([1, 2, 3]), 4));
+
+        let mut text = one_byte_reads(vec![in alloc; 9, 1, 2, 3]?, failing);
+        let fault = TextFault::Field(FieldFault::ReadFault);
+        assert_eq!(rt; expect_text(&mut text, 1, &[7, 2, 3]), (Err(fault), 1));
+        assert_eq!(rt; expect_text(&mut text, 1, &[1, 2, 3]), (Ok(()), 4));
+    }
+    Ok(())
+}
+
+#[test]
+fn a_number_that_was_put_is_read_back(rt: HostRuntime) -> Result<(), Fail> {
+    let mut out = Vec::new(rt.alloc());
+    put_be32(&mut out, 0x5145_564d)?;
+    put_be64(&mut out, 0x0102_0304_0506_0708)?;
+    let mut file = MemBytes::new(out);
+    let mut reader = FieldReader::new(&mut file, 0);
+    let mut word = [0; 4];
+    let mut double = [0; 8];
+    assert_eq!(rt; reader.take(&mut word), Ok(()));
+    assert_eq!(rt; reader.at, 4);
+    assert_eq!(rt; reader.take(&mut double), Ok(()));
+    assert_eq!(rt; get_be32(&word), 0x5145_564d);
+    assert_eq!(rt; get_be64(&double), 0x0102_0304_0506_0708);
+    Ok(())
+}
+
+#[test]
 fn the_first_byte_that_differs_is_named(rt: HostRuntime) -> Result<(), Fail> {
     let alloc = rt.alloc();
     let mut file = MemBytes::new(vec![in alloc; 9, 1, 2, 3]?);
@@ -122,9 +173,7 @@ fn the_first_byte_that_differs_is_named(rt: HostRuntime) -> Result<(), Fail> {
 #[test]
 fn reads_of_one_byte_fill_a_piece(rt: HostRuntime) -> Result<(), Fail> {
     let alloc = rt.alloc();
-    let mut file = OneByteReads {
-        bytes: vec![in alloc; 9, 1, 2, 3]?,
-    };
+    let mut file = one_byte_reads(vec![in alloc; 9, 1, 2, 3]?, 0);
     assert_eq!(rt; take_three(&mut file, 1), (Ok([1, 2, 3]), 4));
     assert_eq!(rt; expect_text(&mut file, 1, &[1, 2, 3]), (Ok(()), 4));
     let differs = TextFault::Differs { at: 2, found: 2 };
@@ -135,9 +184,7 @@ fn reads_of_one_byte_fill_a_piece(rt: HostRuntime) -> Result<(), Fail> {
 #[test]
 fn a_file_that_ends_in_a_piece_is_cut(rt: HostRuntime) -> Result<(), Fail> {
     let alloc = rt.alloc();
-    let mut file = OneByteReads {
-        bytes: Vec::new(alloc),
-    };
+    let mut file = one_byte_reads(Vec::new(alloc), 0);
     for byte in [9, 1, 2] {
         file.bytes.push(byte)?;
         let cut = FieldFault::Truncated { at: 1 };
@@ -159,9 +206,7 @@ fn a_text_of_several_turns_is_compared_whole(rt: HostRuntime) -> Result<(), Fail
     for i in 0..text.len() {
         text[i] = i as u8;
     }
-    let mut file = OneByteReads {
-        bytes: Vec::new(alloc),
-    };
+    let mut file = one_byte_reads(Vec::new(alloc), 0);
     file.bytes.extend_from_slice(&text)?;
     for len in [0, 1, 63, 64, 65, 128, 129, 130] {
         let answer = expect_text(&mut file, 0, &text[..len]);
