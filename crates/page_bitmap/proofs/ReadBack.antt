@@ -1,8 +1,7 @@
 -- Bits are read back from their bytes.
-use Rattle.std.proofs.Common.{◌≡◌, ℕ, ◌+◌, ◌*◌, ◌/◌, ◌%◌, ◌<◌, Bool, false, List, length, take, drop, get_or, sym, ap, ◌∙◌, arith}
+use Rattle.std.proofs.Common.{◌≡◌, ℕ, ◌+◌, ◌*◌, ◌/◌, ◌%◌, ◌<◌, Bool, false, List, length, take, drop, get_or, ap, ◌∙◌, arith, get_or-take, get_or-drop}
 use Rattle.std.specs.Int.{bit_at}
 use Rattle.std.specs.Prelude.{◌==◌}
-use Rattle.std.proofs.Common.{get_or-take, get_or-drop}
 use Rattle.std.proofs.lemmas.List.FromFn.{get_or-map-range_with_len}
 use Rattle.page_bitmap.specs.Bitmap.{bit_in, bits_of, byte_len_of, bytes_of, number_of}
 use Rattle.page_bitmap.proofs.Bits.{bit_at-number_of, same_bits}

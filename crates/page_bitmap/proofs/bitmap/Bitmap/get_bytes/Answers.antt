@@ -24,12 +24,7 @@ returns-clause-bits c =
 
 pub returns-clause-read_back : goal.returns-clause-read_back
 returns-clause-read_back c = λ put len same.
-    let f = c.loop-i.self-inside in
-    let n : f.pages ≡ c.args.self.now.pages = c.loop-i.invariant.same_pages ∙ ap (λ (d : BitmapData). d.pages) c.self.view_is in
-    let given : length c.args.bytes.now ≡ byte_len_of f.pages = c.requires ∙ sym (ap byte_len_of n) in
-    let past : byte_len_of f.pages ≤ c.loop-i.i = subst (λ (m : ℕ). m ≤ c.loop-i.i) given (omega arith) in
-    cut_bits f.pages c.args.bytes.now f.bytes.items (cut_all _ _ _ _ c.loop-i.invariant.cut past)
-    ∙ ap (λ (m : ℕ). bits_of m c.args.bytes.now) n
+    ap (λ (d : BitmapData). d.bits) (returns-clause-bits c)
     ∙ ap (bits_of c.args.self.now.pages) same
     ∙ bits_of-bytes_of c.args.self.now.pages put len
 
