@@ -1,4 +1,5 @@
 pub mod AmoOp
+pub mod Decode
 pub mod Immediate
 pub mod Op
 pub mod Row

@@ -1,4 +1,5 @@
 ghost use Rattle.std.specs.Prelude.{◌≡◌, ◌↔◌, IfSome};
+ghost use Rattle.rv64i_decode.specs.Decode.{instr_in, instr_of, jalr_of, branch_of, load_of, store_of, op_imm_of, op_of, op_imm_32_of, op_32_of, fence_of, system_of, amo_of};
 ghost use Rattle.rv64i_decode.specs.Row.{Row, IsDecoded};
 ghost use Rattle.rv64i_decode.specs.Valid.{IsValid};
 ghost use Rattle.rv64i_decode.specs.Word.{IsInRange};
@@ -10,17 +11,21 @@ use crate::opcode::{
 use crate::{AmoOp, BranchOp, ImmOp, Instr, LoadOp, RegOp, RegWOp, ShiftOp, StoreOp};
 
 /// The instruction that a word is.
+#[tactic(auto, unfolding(crate::specs::Decode::instr_of))]
 pub fn decode(word: u32) -> Option<Instr>
     ensures table { (instr : Instr) → (result ≡ Some instr) ↔ Row word instr }
     ensures at_most_one { (a b : Instr) → Row word a → Row word b → a ≡ b }
+    ensures value { result ≡ instr_of word }
     ensures valid { IfSome result IsValid }
 {
     decode_fields(Fields::of_word(word))
 }
 
+#[tactic(auto, unfolding(crate::specs::Decode::instr_in))]
 fn decode_fields(f: Fields) -> Option<Instr>
     requires { IsInRange f }
-    ensures { IsDecoded f result }
+    ensures row { IsDecoded f result }
+    ensures value { result ≡ instr_in f }
 {
     match f.opcode {
         LUI => Some(Instr::Lui {
@@ -53,7 +58,8 @@ fn decode_fields(f: Fields) -> Option<Instr>
 fn jump_to_register(f: Fields) -> Option<Instr>
     requires opcode { f.opcode ≡ JALR }
     requires in_range { IsInRange f }
-    ensures { IsDecoded f result }
+    ensures row { IsDecoded f result }
+    ensures value { result ≡ jalr_of f }
 {
     if f.funct3 != 0 {
         return None;
@@ -68,7 +74,8 @@ fn jump_to_register(f: Fields) -> Option<Instr>
 fn branch(f: Fields) -> Option<Instr>
     requires opcode { f.opcode ≡ BRANCH }
     requires in_range { IsInRange f }
-    ensures { IsDecoded f result }
+    ensures row { IsDecoded f result }
+    ensures value { result ≡ branch_of f }
 {
     let op = BranchOp::of_funct3(f.funct3)?;
     Some(Instr::Branch {
@@ -82,7 +89,8 @@ fn branch(f: Fields) -> Option<Instr>
 fn load(f: Fields) -> Option<Instr>
     requires opcode { f.opcode ≡ LOAD }
     requires in_range { IsInRange f }
-    ensures { IsDecoded f result }
+    ensures row { IsDecoded f result }
+    ensures value { result ≡ load_of f }
 {
     let op = LoadOp::of_funct3(f.funct3)?;
     Some(Instr::Load {
@@ -96,7 +104,8 @@ fn load(f: Fields) -> Option<Instr>
 fn store(f: Fields) -> Option<Instr>
     requires opcode { f.opcode ≡ STORE }
     requires in_range { IsInRange f }
-    ensures { IsDecoded f result }
+    ensures row { IsDecoded f result }
+    ensures value { result ≡ store_of f }
 {
     let op = StoreOp::of_funct3(f.funct3)?;
     Some(Instr::Store {
@@ -110,7 +119,8 @@ fn store(f: Fields) -> Option<Instr>
 fn with_immediate(f: Fields) -> Option<Instr>
     requires opcode { f.opcode ≡ OP_IMM }
     requires in_range { IsInRange f }
-    ensures { IsDecoded f result }
+    ensures row { IsDecoded f result }
+    ensures value { result ≡ op_imm_of f }
 {
     if let Some(op) = ImmOp::of_funct3(f.funct3) {
         return Some(Instr::Imm {
@@ -133,7 +143,8 @@ fn with_immediate(f: Fields) -> Option<Instr>
 fn with_registers(f: Fields) -> Option<Instr>
     requires opcode { f.opcode ≡ OP }
     requires in_range { IsInRange f }
-    ensures { IsDecoded f result }
+    ensures row { IsDecoded f result }
+    ensures value { result ≡ op_of f }
 {
     let op = RegOp::of_functs(f.funct3, f.funct7)?;
     Some(Instr::Op {
@@ -147,7 +158,8 @@ fn with_registers(f: Fields) -> Option<Instr>
 fn word_with_immediate(f: Fields) -> Option<Instr>
     requires opcode { f.opcode ≡ OP_IMM_32 }
     requires in_range { IsInRange f }
-    ensures { IsDecoded f result }
+    ensures row { IsDecoded f result }
+    ensures value { result ≡ op_imm_32_of f }
 {
     if f.funct3 == 0 {
         return Some(Instr::ImmW {
@@ -168,7 +180,8 @@ fn word_with_immediate(f: Fields) -> Option<Instr>
 fn word_with_registers(f: Fields) -> Option<Instr>
     requires opcode { f.opcode ≡ OP_32 }
     requires in_range { IsInRange f }
-    ensures { IsDecoded f result }
+    ensures row { IsDecoded f result }
+    ensures value { result ≡ op_32_of f }
 {
     let op = RegWOp::of_functs(f.funct3, f.funct7)?;
     Some(Instr::OpW {
@@ -182,7 +195,8 @@ fn word_with_registers(f: Fields) -> Option<Instr>
 fn fence(f: Fields) -> Option<Instr>
     requires opcode { f.opcode ≡ MISC_MEM }
     requires in_range { IsInRange f }
-    ensures { IsDecoded f result }
+    ensures row { IsDecoded f result }
+    ensures value { result ≡ fence_of f }
 {
     if f.funct3 != 0 {
         return None;
@@ -198,7 +212,8 @@ fn fence(f: Fields) -> Option<Instr>
 fn environment(f: Fields) -> Option<Instr>
     requires opcode { f.opcode ≡ SYSTEM }
     requires in_range { IsInRange f }
-    ensures { IsDecoded f result }
+    ensures row { IsDecoded f result }
+    ensures value { result ≡ system_of f }
 {
     if f.funct3 != 0 || f.funct7 != 0 || f.rd != 0 || f.rs1 != 0 {
         return None;
@@ -213,7 +228,8 @@ fn environment(f: Fields) -> Option<Instr>
 fn amo(f: Fields) -> Option<Instr>
     requires opcode { f.opcode ≡ AMO }
     requires in_range { IsInRange f }
-    ensures { IsDecoded f result }
+    ensures row { IsDecoded f result }
+    ensures value { result ≡ amo_of f }
 {
     let wide = match f.funct3 {
         0b010 => false,

@@ -25,13 +25,15 @@ impl Model for Fields {
 }
 
 impl Fields {
+    ghost use Rattle.rv64i_decode.specs.Decode.{fields_of, imm_i, imm_s, imm_b, imm_u, imm_j};
     ghost use Rattle.rv64i_decode.specs.Immediate.{Is12Bit, IsBranchOffset, IsImmediateB, IsImmediateI, IsImmediateJ, IsImmediateS, IsImmediateU, IsJumpOffset, IsUpperImmediate};
     ghost use Rattle.rv64i_decode.specs.Row.{IsB, IsFence, IsI, IsJ, IsR, IsS, IsShift, IsU};
     ghost use Rattle.rv64i_decode.specs.Word.{IsInRange, IsWord};
 
     /// The fields of a word.
     pub(crate) fn of_word(word: u32) -> Fields
-        ensures { IsWord word result }
+        ensures sum { IsWord word result }
+        ensures fields { result ≡ fields_of word }
     {
         Fields {
             opcode: (word & 0x7f) as u8,
@@ -59,7 +61,8 @@ impl Fields {
     /// The immediate of the I format.
     pub(crate) fn imm_i(self) -> i64
         requires { IsInRange self }
-        ensures { IsImmediateI self result }
+        ensures row { IsImmediateI self result }
+        ensures value { result ≡ imm_i self }
     {
         let bits = u32::from(self.rs2) + (u32::from(self.funct7) << 5);
         sign_extend(bits, 1 << 11)
@@ -68,7 +71,8 @@ impl Fields {
     /// The immediate of the S format.
     pub(crate) fn imm_s(self) -> i64
         requires { IsInRange self }
-        ensures { IsImmediateS self result }
+        ensures row { IsImmediateS self result }
+        ensures value { result ≡ imm_s self }
     {
         let bits = u32::from(self.rd) + (u32::from(self.funct7) << 5);
         sign_extend(bits, 1 << 11)
@@ -77,7 +81,8 @@ impl Fields {
     /// The immediate of the B format.
     pub(crate) fn imm_b(self) -> i64
         requires { IsInRange self }
-        ensures { IsImmediateB self result }
+        ensures row { IsImmediateB self result }
+        ensures value { result ≡ imm_b self }
     {
         let imm11 = u32::from(self.rd & 1);
         let imm4_1 = u32::from(self.rd >> 1);
@@ -90,7 +95,8 @@ impl Fields {
     /// The immediate of the U format.
     pub(crate) fn imm_u(self) -> i64
         requires { IsInRange self }
-        ensures { IsImmediateU self result }
+        ensures row { IsImmediateU self result }
+        ensures value { result ≡ imm_u self }
     {
         let bits = (u32::from(self.funct3) << 12)
             + (u32::from(self.rs1) << 15)
@@ -102,7 +108,8 @@ impl Fields {
     /// The immediate of the J format.
     pub(crate) fn imm_j(self) -> i64
         requires { IsInRange self }
-        ensures { IsImmediateJ self result }
+        ensures row { IsImmediateJ self result }
+        ensures value { result ≡ imm_j self }
     {
         let imm11 = u32::from(self.rs2 & 1);
         let imm4_1 = u32::from(self.rs2 >> 1);

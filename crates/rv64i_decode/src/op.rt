@@ -12,10 +12,13 @@ pub enum BranchOp {
 }
 
 impl BranchOp {
+    ghost use Rattle.rv64i_decode.specs.Decode.{branch_op};
     ghost use Rattle.rv64i_decode.specs.Op.{branch_funct3};
 
+    #[tactic(auto, unfolding(crate::specs::Decode::branch_op))]
     pub(crate) fn of_funct3(funct3: u8) -> Option<BranchOp>
-        ensures { (op : BranchOp) → (result ≡ Some op) ↔ (funct3 ≡ branch_funct3 op) }
+        ensures op { (op : BranchOp) → (result ≡ Some op) ↔ (funct3 ≡ branch_funct3 op) }
+        ensures value { result ≡ branch_op funct3 }
     {
         match funct3 {
             0b000 => Some(BranchOp::Beq),
@@ -55,10 +58,13 @@ pub enum LoadOp {
 }
 
 impl LoadOp {
+    ghost use Rattle.rv64i_decode.specs.Decode.{load_op};
     ghost use Rattle.rv64i_decode.specs.Op.{load_funct3};
 
+    #[tactic(auto, unfolding(crate::specs::Decode::load_op))]
     pub(crate) fn of_funct3(funct3: u8) -> Option<LoadOp>
-        ensures { (op : LoadOp) → (result ≡ Some op) ↔ (funct3 ≡ load_funct3 op) }
+        ensures op { (op : LoadOp) → (result ≡ Some op) ↔ (funct3 ≡ load_funct3 op) }
+        ensures value { result ≡ load_op funct3 }
     {
         match funct3 {
             0b000 => Some(LoadOp::Lb),
@@ -97,10 +103,13 @@ pub enum StoreOp {
 }
 
 impl StoreOp {
+    ghost use Rattle.rv64i_decode.specs.Decode.{store_op};
     ghost use Rattle.rv64i_decode.specs.Op.{store_funct3};
 
+    #[tactic(auto, unfolding(crate::specs::Decode::store_op))]
     pub(crate) fn of_funct3(funct3: u8) -> Option<StoreOp>
-        ensures { (op : StoreOp) → (result ≡ Some op) ↔ (funct3 ≡ store_funct3 op) }
+        ensures op { (op : StoreOp) → (result ≡ Some op) ↔ (funct3 ≡ store_funct3 op) }
+        ensures value { result ≡ store_op funct3 }
     {
         match funct3 {
             0b000 => Some(StoreOp::Sb),
@@ -135,10 +144,13 @@ pub enum ImmOp {
 }
 
 impl ImmOp {
+    ghost use Rattle.rv64i_decode.specs.Decode.{imm_op};
     ghost use Rattle.rv64i_decode.specs.Op.{imm_funct3};
 
+    #[tactic(auto, unfolding(crate::specs::Decode::imm_op))]
     pub(crate) fn of_funct3(funct3: u8) -> Option<ImmOp>
-        ensures { (op : ImmOp) → (result ≡ Some op) ↔ (funct3 ≡ imm_funct3 op) }
+        ensures op { (op : ImmOp) → (result ≡ Some op) ↔ (funct3 ≡ imm_funct3 op) }
+        ensures value { result ≡ imm_op funct3 }
     {
         match funct3 {
             0b000 => Some(ImmOp::Addi),
@@ -174,11 +186,14 @@ pub enum ShiftOp {
 }
 
 impl ShiftOp {
+    ghost use Rattle.rv64i_decode.specs.Decode.{shift_op, shift_w_op};
     ghost use Rattle.rv64i_decode.specs.Op.{shift_funct3, shift_funct6, shift_funct7};
 
+    #[tactic(auto, unfolding(crate::specs::Decode::shift_op))]
     pub(crate) fn of_funct6(funct3: u8, funct6: u8) -> Option<ShiftOp>
-        ensures { (op : ShiftOp) →
+        ensures op { (op : ShiftOp) →
             (result ≡ Some op) ↔ ((funct3 ≡ shift_funct3 op) × (funct6 ≡ shift_funct6 op)) }
+        ensures value { result ≡ shift_op funct3 funct6 }
     {
         match (funct3, funct6) {
             (0b001, 0b000000) => Some(ShiftOp::Left),
@@ -188,9 +203,11 @@ impl ShiftOp {
         }
     }
 
+    #[tactic(auto, unfolding(crate::specs::Decode::shift_w_op))]
     pub(crate) fn of_funct7(funct3: u8, funct7: u8) -> Option<ShiftOp>
-        ensures { (op : ShiftOp) →
+        ensures op { (op : ShiftOp) →
             (result ≡ Some op) ↔ ((funct3 ≡ shift_funct3 op) × (funct7 ≡ shift_funct7 op)) }
+        ensures value { result ≡ shift_w_op funct3 funct7 }
     {
         match (funct3, funct7) {
             (0b001, 0b0000000) => Some(ShiftOp::Left),
@@ -244,11 +261,14 @@ pub enum RegOp {
 }
 
 impl RegOp {
+    ghost use Rattle.rv64i_decode.specs.Decode.{reg_op};
     ghost use Rattle.rv64i_decode.specs.Op.{reg_funct3, reg_funct7};
 
+    #[tactic(auto, unfolding(crate::specs::Decode::reg_op))]
     pub(crate) fn of_functs(funct3: u8, funct7: u8) -> Option<RegOp>
-        ensures { (op : RegOp) →
+        ensures op { (op : RegOp) →
             (result ≡ Some op) ↔ ((funct3 ≡ reg_funct3 op) × (funct7 ≡ reg_funct7 op)) }
+        ensures value { result ≡ reg_op funct3 funct7 }
     {
         match (funct3, funct7) {
             (0b000, 0b0000000) => Some(RegOp::Add),
@@ -301,11 +321,14 @@ pub enum RegWOp {
 }
 
 impl RegWOp {
+    ghost use Rattle.rv64i_decode.specs.Decode.{reg_w_op};
     ghost use Rattle.rv64i_decode.specs.Op.{reg_w_funct3, reg_w_funct7};
 
+    #[tactic(auto, unfolding(crate::specs::Decode::reg_w_op))]
     pub(crate) fn of_functs(funct3: u8, funct7: u8) -> Option<RegWOp>
-        ensures { (op : RegWOp) →
+        ensures op { (op : RegWOp) →
             (result ≡ Some op) ↔ ((funct3 ≡ reg_w_funct3 op) × (funct7 ≡ reg_w_funct7 op)) }
+        ensures value { result ≡ reg_w_op funct3 funct7 }
     {
         match (funct3, funct7) {
             (0b000, 0b0000000) => Some(RegWOp::Addw),
@@ -353,9 +376,12 @@ pub enum AmoOp {
 
 impl AmoOp {
     ghost use Rattle.rv64i_decode.specs.AmoOp.{amo_funct5};
+    ghost use Rattle.rv64i_decode.specs.Decode.{amo_op};
 
+    #[tactic(auto, unfolding(crate::specs::Decode::amo_op))]
     pub(crate) fn of_funct5(funct5: u8) -> Option<AmoOp>
-        ensures { (op : AmoOp) → (result ≡ Some op) ↔ (funct5 ≡ amo_funct5 op) }
+        ensures op { (op : AmoOp) → (result ≡ Some op) ↔ (funct5 ≡ amo_funct5 op) }
+        ensures value { result ≡ amo_op funct5 }
     {
         match funct5 {
             0b00000 => Some(AmoOp::Add),

@@ -1,11 +1,13 @@
 ghost use Rattle.std.specs.Prelude.{◌≡◌, ◌<◌, ◌≤◌, ◌*◌, ◌^◌, pos, ◌≤ℤ◌, ◌<ℤ◌, neg_ℤ};
+ghost use Rattle.rv64i_decode.specs.Decode.{twos_complement};
 ghost use Rattle.rv64i_decode.specs.Immediate.{IsTwosComplement};
 
 /// The number whose two's complement is `bits`, where the sign bit counts `half`.
 pub(crate) fn sign_extend(bits: u32, half: u32) -> i64
     requires sign { half ≤ 2 ^ 31 }
     requires width { bits < 2 * half }
-    ensures { IsTwosComplement half bits result }
+    ensures relation { IsTwosComplement half bits result }
+    ensures value { result ≡ twos_complement half bits }
 {
     if bits < half {
         i64::from(bits)
