@@ -1,0 +1,6 @@
+pub mod Access
+pub mod Amo
+pub mod Arithmetic
+pub mod Event
+pub mod Execute
+pub mod Vcpu
