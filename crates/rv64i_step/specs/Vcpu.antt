@@ -1,9 +1,11 @@
 -- A vCPU as plain data (RISC-V Unprivileged ISA, Programmers' Model for Base Integer ISA; the count of steps, the
 -- state and the boot values are this project's own, docs/MACHINE.md).
 use Rattle.std.specs.Prelude.{◌≡◌, ℕ, ◌+◌, ◌-◌, ◌%◌, ◌^◌, ◌<◌, ◌==◌, List, length, replicate, slice_index, slice_set, All, Option, None, IfSome, if◌then◌else◌}
+use Rattle.ram_block.specs.Shape.{ShapeData, total_pages_of}
 use Rattle.ram_block.specs.declared.cause.Cause.{Cause}
 use Rattle.ram_block.specs.declared.shape.TheConstants.{RAM_BASE}
 use Rattle.ram_block.specs.declared.place.Place.{Place}
+use Rattle.ram_block.specs.declared.place.Place.TheVariants as places
 use Rattle.ram_block.specs.declared.place.Way.TheVariants as ways
 use Rattle.rv64i_decode.specs.declared.instr.Instr.{Instr}
 use Rattle.rv64i_decode.specs.declared.instr.Instr.TheVariants as instrs
@@ -52,6 +54,15 @@ IsPending place (instrs.Load op rd rs1 off) = CanAccess (load_width op) ways.Loa
 IsPending place (instrs.Store op rs1 rs2 off) = CanAccess (store_width op) ways.Store place
 IsPending place (instrs.Amo op wide rd rs1 rs2 order) = CanAccess (amo_width wide) ways.Amo place
 IsPending place _ = ⊥
+
+-- a machine of this shape has the page of a place
+abbrev pub HasPage : ShapeData → Place → Type 0
+HasPage shape (places.Ram page off) = page < total_pages_of shape
+HasPage shape place = Unit {0}
+
+-- it has the page of the pending access
+abbrev pub IsPlaced : ShapeData → VcpuData → Type 0
+IsPlaced shape v = IfSome v.pending (λ access. HasPage shape access.place)
 
 -- what each vCPU keeps: its registers are 31 numbers of 64 bits, and only a vCPU that runs has a pending access
 pub record IsVcpu (v : VcpuData) : Type 0 where

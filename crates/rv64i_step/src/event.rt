@@ -4,8 +4,8 @@ ghost use Rattle.ram_block.specs.declared.place.Way.TheVariants as ways;
 ghost use Rattle.ram_block.specs.declared.place.Width.TheVariants.{Four};
 ghost use Rattle.rv64i_decode.specs.Valid.{IsValid};
 ghost use Rattle.rv64i_step.specs.Access.{amo_width, extended, load_width, loaded, low_bytes, store_width};
-ghost use Rattle.rv64i_step.specs.Event.{CanServe, access_of, accessed_vcpu, fetch_at, fetched_vcpu, made, request_of};
-ghost use Rattle.rv64i_step.specs.Vcpu.{IsPending, IsReady, IsVcpu};
+ghost use Rattle.rv64i_step.specs.Event.{CanServe, IsStage, RequestsPage, access_of, accessed_vcpu, fetch_at, fetched_vcpu, made, request_of};
+ghost use Rattle.rv64i_step.specs.Vcpu.{IsPending, IsPlaced, IsReady, IsVcpu};
 ghost use Rattle.rv64i_step.specs.declared.request.Request.TheVariants.{Nothing};
 ghost use Rattle.rv64i_step.specs.declared.state.State.TheVariants.{Running};
 
@@ -20,7 +20,9 @@ impl Vcpu {
     pub fn request(&self, shape: &Shape) -> Request
         ensures request { result ≡ request_of shape.now self.now }
         ensures nothing { (result ≡ Nothing) ↔ (self.now.state ≢ Running) }
+        ensures stage { IsStage self.now result }
         ensures servable { CanServe shape.now result }
+        ensures placed { IsPlaced shape.now self.now → RequestsPage shape.now result }
         ensures limits { IsVcpu self.now }
     {
         match self.state {
@@ -37,6 +39,7 @@ impl Vcpu {
     pub fn fetched(&mut self, shape: &Shape, word: Option<u32>)
         requires ready { IsReady self.old }
         ensures event { self.new ≡ fetched_vcpu shape.now self.old word }
+        ensures placed { IsPlaced shape.now self.new }
         ensures limits { IsVcpu self.new }
     {
         match word {
@@ -58,6 +61,7 @@ impl Vcpu {
         requires pending { IsSome self.old.pending }
         requires steps { self.old.steps < 2 ^ 63 }
         ensures event { self.new ≡ accessed_vcpu self.old value }
+        ensures done { self.new.pending ≡ None }
         ensures limits { IsVcpu self.new }
     {
         if let Some(access) = self.pending {
@@ -106,6 +110,7 @@ impl Vcpu {
         requires steps { self.old.steps < 2 ^ 63 }
         requires valid { IsValid access.instr }
         ensures event { self.new ≡ made self.old value access.instr }
+        ensures pending { self.new.pending ≡ self.old.pending }
         ensures limits { IsVcpu self.new }
     {
         match access.instr {

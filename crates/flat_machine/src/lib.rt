@@ -1,0 +1,18 @@
+//! The machine that every promise is stated by: one flat list of RAM, vCPUs, devices and a clock, one event at a
+//! time, with no protection and no locks. A run is a function of the machine and the order of its events. Below it
+//! stand `rv64i_step`, one vCPU's part of an event, `serial_timer`, the devices, and `ram_block`.
+#![tactic(auto)]
+
+mod device_access;
+mod machine;
+mod order;
+mod page_access;
+mod ram;
+mod step;
+mod vcpus;
+
+pub use device_access::{apply_to_serial, apply_to_timer};
+pub use machine::{Machine, Parts};
+pub use order::Order;
+pub use page_access::apply_to_page;
+pub use step::Stepped;
