@@ -1,5 +1,4 @@
 -- Where an access has a place, it can be carried out there.
-use Rattle.std.proofs.Common.{ℕ}
 use Rattle.ram_block.specs.AddressMap.{IsAccess}
 use Rattle.ram_block.specs.Shape.{ShapeData}
 use Rattle.ram_block.specs.declared.place.Place.{Place}

@@ -1,12 +1,12 @@
 -- The accesses of loads, stores and AMOs: how wide they are, and what a load makes of the bytes that it gets
 -- (RISC-V Unprivileged ISA, Load and Store Instructions; "A" Extension, Atomic Memory Operations).
-use Rattle.std.specs.Prelude.{◌≡◌, ℕ, ◌+◌, ◌*◌, ◌%◌, ◌^◌, ◌≤◌, ℤ, Bool, true, false}
+use Rattle.std.specs.Prelude.{◌≡◌, ℕ, ◌+◌, ◌%◌, ◌^◌, ◌≤◌, Bool, true, false}
 use Rattle.std.specs.Int.{w8, w16, w32, w64, cast_signed, cast_unsigned}
 use Rattle.ram_block.specs.AddressMap.{width_bytes}
 use Rattle.ram_block.specs.Devices.{IsRegisterAccess}
 use Rattle.ram_block.specs.declared.page_buf.TheConstants.{PAGE}
 use Rattle.ram_block.specs.declared.place.Place.{Place}
-use Rattle.ram_block.specs.declared.place.Place.TheVariants.{Ram, Serial, Timer}
+use Rattle.ram_block.specs.declared.place.Place.TheVariants.{Ram}
 use Rattle.ram_block.specs.declared.place.Way.{Way}
 use Rattle.ram_block.specs.declared.place.Width.{Width}
 use Rattle.ram_block.specs.declared.place.Width.TheVariants.{One, Two, Four, Eight}

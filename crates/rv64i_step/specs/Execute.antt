@@ -1,6 +1,6 @@
 -- What each instruction makes of a vCPU when it is fetched, class by class (RISC-V Unprivileged ISA, RV32I and
 -- RV64I; which of them halt is this project's own, docs/MACHINE.md).
-use Rattle.std.specs.Prelude.{ℕ, ◌-◌, ◌%◌, ◌==◌, ℤ, Bool, Option, Some, Result, Ok, Err, if◌then◌else◌}
+use Rattle.std.specs.Prelude.{ℕ, ◌-◌, ◌%◌, ◌==◌, ℤ, Some, Result, Ok, Err, if◌then◌else◌}
 use Rattle.ram_block.specs.AddressMap.{located}
 use Rattle.ram_block.specs.Shape.{ShapeData}
 use Rattle.ram_block.specs.declared.cause.Cause.{Cause}
@@ -12,7 +12,7 @@ use Rattle.ram_block.specs.declared.place.Width.{Width}
 use Rattle.rv64i_decode.specs.declared.instr.Instr.{Instr}
 use Rattle.rv64i_decode.specs.declared.instr.Instr.TheVariants.{Lui, Auipc, Jal, Jalr, Branch, Load, Store, Imm, Shift, ImmW, ShiftW, Op, OpW, Fence, Ecall, Ebreak, Amo}
 use Rattle.rv64i_step.specs.Access.{load_width, store_width, amo_width}
-use Rattle.rv64i_step.specs.Arithmetic.{bits64, sum64, sum32, low_word, extended_word, imm_result, shift_result, shift_w_result, reg_result, reg_w_result, is_taken}
+use Rattle.rv64i_step.specs.Arithmetic.{bits64, sum64, low_word, extended_word, imm_result, shift_result, shift_w_result, reg_result, reg_w_result, is_taken}
 use Rattle.rv64i_step.specs.Vcpu.{VcpuData, reg_of, with_reg, next_pc, finished, writes, halted}
 
 -- the vCPU at the target of a jump or of a taken branch, with what the jump writes; a target that isn't a

@@ -3,4 +3,5 @@ pub mod Amo
 pub mod Arithmetic
 pub mod Event
 pub mod Execute
+pub mod Outcome
 pub mod Vcpu

@@ -1,6 +1,6 @@
 -- A vCPU as plain data (RISC-V Unprivileged ISA, Programmers' Model for Base Integer ISA; the count of steps, the
 -- state and the boot values are this project's own, docs/MACHINE.md).
-use Rattle.std.specs.Prelude.{◌≡◌, ℕ, ◌+◌, ◌-◌, ◌%◌, ◌^◌, ◌<◌, ◌==◌, List, length, replicate, slice_index, slice_set, All, Option, None, IfSome, if◌then◌else◌}
+use Rattle.std.specs.Prelude.{◌≡◌, ℕ, ◌+◌, ◌-◌, ◌^◌, ◌<◌, ◌==◌, List, length, replicate, slice_index, slice_set, All, Option, None, IfSome, if◌then◌else◌}
 use Rattle.ram_block.specs.Shape.{ShapeData, total_pages_of}
 use Rattle.ram_block.specs.declared.cause.Cause.{Cause}
 use Rattle.ram_block.specs.declared.shape.TheConstants.{RAM_BASE}

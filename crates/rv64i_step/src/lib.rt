@@ -8,12 +8,14 @@ mod amo;
 mod arithmetic;
 mod event;
 mod execute;
+mod laws;
 mod request;
 mod state;
 mod vcpu;
 
 pub use access::Access;
 pub use amo::amo_result;
+pub use laws::{access_finishes_the_instruction, fetch_has_one_of_three_outcomes};
 pub use request::Request;
 pub use state::State;
 pub use vcpu::Vcpu;
