@@ -3,6 +3,8 @@
 //! stand `rv64i_step`, one vCPU's part of an event, `serial_timer`, the devices, and `ram_block`.
 #![tactic(auto)]
 
+mod boot;
+mod copy;
 mod device_access;
 mod machine;
 mod order;

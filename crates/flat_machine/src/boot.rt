@@ -1,0 +1,94 @@
+ghost use Rattle.std.specs.Prelude.{◌≡◌, ◌≤◌, ◌<◌, ◌+◌, ◌-◌, ◌*◌, ◌++◌, take, drop, length, map, replicate, vec_len, All, IfOk};
+ghost use Rattle.std.specs.List.{range_with_len};
+ghost use Rattle.ram_block.specs.Shape.{ram_bytes_of, total_pages_of};
+ghost use Rattle.ram_block.specs.declared.page_buf.TheConstants.{PAGE};
+ghost use Rattle.rv64i_step.specs.Vcpu.{IsPlaced, boot_vcpu};
+ghost use Rattle.serial_timer.specs.declared.serial.TheConstants.{MAX_SERIAL_INPUT};
+ghost use Rattle.flat_machine.specs.Machine.{boot, IsMachine};
+ghost use Rattle.flat_machine.specs.Page.{joined};
+
+use crate::Machine;
+use ram_block::{NoMemory, PAGE, PageBuf, Shape};
+use rv64i_step::Vcpu;
+use serial_timer::{Serial, Timer};
+use std::alloc::Global;
+
+impl Machine {
+    /// A machine at boot: the image from the start of RAM, zeros behind it, and the input at the serial device.
+    #[tactic(auto, unfolding(crate::specs::Machine::boot))]
+    pub fn boot(
+        alloc: Global,
+        shape: Shape,
+        image: &[u8],
+        input: &[u8],
+    ) -> Result<Machine, NoMemory>
+        requires image { length image.now ≤ ram_bytes_of shape }
+        requires input { length input.now ≤ MAX_SERIAL_INPUT }
+        ensures boot { IfOk result (λ m. m ≡ boot shape image.now input.now) }
+        ensures limits { IfOk result IsMachine }
+    {
+        let ram = boot_ram(alloc, image, shape.total_pages())?;
+        let vcpus = boot_vcpus(alloc, &shape)?;
+        let serial = Serial::new(alloc, input)?;
+        Ok(Machine::of(shape, ram, vcpus, serial, Timer::of(0), 0))
+    }
+}
+
+// So many pages that begin with the image.
+#[tactic(auto, using(crate::proofs::Padded::joined_none, crate::proofs::Padded::joined_padded, crate::proofs::Padded::take_padded))]
+fn boot_ram(alloc: Global, image: &[u8], pages: u32) -> Result<Vec<PageBuf>, NoMemory>
+    requires image { length image.now ≤ PAGE * pages }
+    ensures bytes { IfOk result (λ ram. joined ram.items ≡ image.now ++ replicate (PAGE * pages - length image.now) 0) }
+    ensures count { IfOk result (λ ram. vec_len ram ≡ pages) }
+{
+    let mut ram = Vec::with_capacity(alloc, pages as usize)?;
+    for p in 0..pages {
+        ram.push(boot_page(alloc, part_of(image, p))?)?;
+    }
+    Ok(ram)
+}
+
+// The part of the image that is in a page.
+#[tactic(auto, using(crate::proofs::Padded::part_between))]
+fn part_of(image: &[u8], p: u32) -> &[u8]
+    ensures part { result.now ≡ take PAGE (drop (PAGE * p) image.now) }
+    ensures within { length result.now ≤ PAGE }
+{
+    let start = image.len().min(PAGE * p as usize);
+    let end = image.len().min(PAGE * p as usize + PAGE);
+    &image[start..end]
+}
+
+// A page that begins with these bytes, and has zeros behind them.
+#[tactic(auto, using(crate::proofs::Padded::zeros_behind))]
+fn boot_page(alloc: Global, part: &[u8]) -> Result<PageBuf, NoMemory>
+    requires { length part.now ≤ PAGE }
+    ensures bytes { IfOk result (λ page. page ≡ part.now ++ replicate (PAGE - length part.now) 0) }
+    ensures whole { IfOk result (λ page. length page ≡ PAGE) }
+{
+    let mut page = PageBuf::new(alloc)?;
+    fill_front(page.bytes_mut(), part);
+    Ok(page)
+}
+
+// Writes the bytes to the front.
+fn fill_front(page: &mut [u8], bytes: &[u8])
+    requires { length bytes.now ≤ length page.old }
+    ensures { page.new ≡ bytes.now ++ drop (length bytes.now) page.old }
+{
+    page[..bytes.len()].copy_from_slice(bytes);
+}
+
+// As many vCPUs as the shape has.
+#[tactic(auto, using(crate::proofs::Padded::boot_placed))]
+fn boot_vcpus(alloc: Global, shape: &Shape) -> Result<Vec<Vcpu>, NoMemory>
+    ensures vcpus { IfOk result (λ vcpus. vcpus.items ≡ map boot_vcpu (range_with_len 0 shape.now.vcpus)) }
+    ensures count { IfOk result (λ vcpus. vec_len vcpus ≡ shape.now.vcpus) }
+    ensures placed { IfOk result (λ vcpus. All (IsPlaced shape.now) vcpus.items) }
+{
+    let mut vcpus = Vec::with_capacity(alloc, shape.vcpus() as usize)?;
+    for k in 0..shape.vcpus() {
+        vcpus.push(Vcpu::boot(k))?;
+    }
+    Ok(vcpus)
+}
