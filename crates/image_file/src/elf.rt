@@ -67,7 +67,7 @@ fn check_table(file: &[u8], shape: &Shape) -> Result<u64, ImageRefusal>
     ensures small { ram_bytes_of shape.now ≤ 2 ^ 26 }
 {
     let ram = ram_bytes(shape);
-    let mut len = 0;
+    let mut len: u64 = 0;
     for j in 0..header_count(file) {
         let header = check_header(file, ram, j)?;
         len = len.max(header.reach());
