@@ -45,7 +45,8 @@ fn fill_piece(piece: &mut [u8], from: u64, file: &[u8])
 {
     piece.fill(0);
     let first = last_over(file, from, from + piece.len() as u64);
-    for j in first..header_count(file) {
+    let count = header_count(file);
+    for j in first..count {
         put_segment(piece, from, file, &ProgramHeader::of(file, j));
     }
 }

@@ -30,7 +30,7 @@ loop-j-preserved c = λ k within later.
 pub returns : goal.returns
 returns c =
     let file = c.args.file.now in
-    let all : c.loop-j.j ≡ e_phnum file = omega (arith, first_within c.last_over-first.result (e_phnum file) c.last_over-first.ensures.within, c.header_count-j-end.ensures, c.loop-j.auto.j, c.loop-j.auto.j-end, c.loop-j-test.false) in
+    let all : c.loop-j.j ≡ e_phnum file = omega (arith, first_within c.last_over-first.result (e_phnum file) c.last_over-first.ensures.within, c.header_count-count.ensures, c.loop-j.auto.j, c.loop-j.auto.j-end, c.loop-j-test.false) in
     memory-from file c.loop-j.piece c.args.from
     (λ k within. c.loop-j.invariant k within (λ some. omega (arith, c.last_over-first.ensures.within some)) ∙ ap (λ j. memory_byte file j (c.args.from + k)) all)
     ∙ ap (memory file c.args.from) (c.loop-j.auto.piece ∙ c.fill.ensures.len)
