@@ -73,6 +73,7 @@ reads_on most room None now next all le read on = tt
 pub record IsWhole (limit : ℕ) (bytes : List ℕ) (next : Option (List ℕ)) (all : List ℕ) : Type 0 where
   pub answer : raw_of bytes limit ≡ Ok all
   pub end : next ≡ Some (behind (limit + 1) bytes)
+  pub nothing : next ≡ Some []
 
 pub ended : (limit n : ℕ) (left now next : Option (List ℕ)) (all after : List ℕ) → HasRead left now all → Moves now next n all after → n ≡ 0 → length after ≤ limit
     → (bytes : List ℕ) → left ≡ Some bytes → IsWhole limit bytes next after
@@ -88,4 +89,5 @@ ended limit n left now next all after read moves zero le bytes is =
     record {
       answer = ap (λ (b : Bool). cond b (Err (TooLong (limit + 1))) (Ok bytes)) (le-ltb _ _ (omega arith)) ∙ ap (λ (l : List ℕ). Ok l) (sym whole);
       end = more.rest ∙ ap Some (drop_all (length after) bytes (omega arith) ∙ sym (drop_all (limit + 1) bytes (omega arith)));
+      nothing = more.rest ∙ ap Some (drop_all (length after) bytes (omega arith));
     }

@@ -1,4 +1,4 @@
-ghost use Rattle.std.specs.Prelude.{◌≡◌, ◌≤◌, ◌+◌, ℕ, List, Some, vec_len, IfOk, IfErr};
+ghost use Rattle.std.specs.Prelude.{◌≡◌, ◌≤◌, ◌+◌, ℕ, List, [], Some, vec_len, IfOk, IfErr, IsOk};
 ghost use Rattle.medium.specs.Count.{HasRisen};
 ghost use Rattle.ram_block.specs.Shape.{ram_bytes_of};
 ghost use Rattle.image_file.specs.Image.{image_of, image_within, Answers, behind, ReadsOn, IsReadToEnd, IsNoReadFault};
@@ -26,6 +26,7 @@ pub fn read_image<S: Source>(
 
     ensures read { ReadsOn (MOST_IMAGE + 1) (S.left source.old) (S.left source.new) }
     ensures read_to_end { IsReadToEnd result → (bytes : List ℕ) → S.left source.old ≡ Some bytes → S.left source.new ≡ Some (behind (MOST_IMAGE + 1) bytes) }
+    ensures whole { IsOk result → (bytes : List ℕ) → S.left source.old ≡ Some bytes → S.left source.new ≡ Some [] }
 
     ensures fault { result ≡ Err read_fault → HasRisen (S.faults source.old) (S.faults source.new) }
     ensures count { S.faults source.old ≤ S.faults source.new }

@@ -1,4 +1,4 @@
-ghost use Rattle.std.specs.Prelude.{◌≡◌, ◌<◌, ◌≤◌, ◌+◌, ℕ, List, Some, length, vec_len, replicate, IfOk, IfErr};
+ghost use Rattle.std.specs.Prelude.{◌≡◌, ◌<◌, ◌≤◌, ◌+◌, ℕ, List, [], Some, length, vec_len, IfOk, IfErr, IsOk};
 ghost use Rattle.medium.specs.Count.{HasRisen};
 ghost use Rattle.image_file.specs.Image.{raw_of, Answers, behind, RefusesOnly, RefusesNothing, Moves, ReadsOn, IsReadToEnd};
 ghost use Rattle.image_file.specs.declared.image_fault.ImageFault.TheVariants.{ReadFault as read_fault};
@@ -22,6 +22,7 @@ pub fn read_raw<S: Source>(alloc: Global, source: &mut S, limit: u32) -> Result<
 
     ensures read { ReadsOn (limit + 1) (S.left source.old) (S.left source.new) }
     ensures read_to_end { IsReadToEnd result → (bytes : List ℕ) → S.left source.old ≡ Some bytes → S.left source.new ≡ Some (behind (limit + 1) bytes) }
+    ensures whole { IsOk result → (bytes : List ℕ) → S.left source.old ≡ Some bytes → S.left source.new ≡ Some [] }
 
     ensures fault { result ≡ Err read_fault → HasRisen (S.faults source.old) (S.faults source.new) }
     ensures count { S.faults source.old ≤ S.faults source.new }

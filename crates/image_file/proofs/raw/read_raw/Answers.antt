@@ -36,6 +36,11 @@ returns-then-branch-eq0-clause-read_to_end g c _ bytes is =
     (ended c.args.limit c.in_ok-next_piece.field-0 _ _ _ c.loop-all.all.items c.next_piece.new.all.items c.loop-all.invariant.read c.in_ok-next_piece.ensures.moved
     c.if-branch-eq0.true (omega (arith, c.in_ok-next_piece.ensures.len, c.next_piece.new.all.ok.0)) bytes is).end
 
+pub returns-then-branch-eq0-clause-whole : goal.returns-then-branch-eq0-clause-whole
+returns-then-branch-eq0-clause-whole g c _ bytes is =
+    (ended c.args.limit c.in_ok-next_piece.field-0 _ _ _ c.loop-all.all.items c.next_piece.new.all.items c.loop-all.invariant.read c.in_ok-next_piece.ensures.moved
+    c.if-branch-eq0.true (omega (arith, c.in_ok-next_piece.ensures.len, c.next_piece.new.all.ok.0)) bytes is).nothing
+
 pub loop-all-preserved : goal.loop-all-preserved
 loop-all-preserved g c = record {
   most = omega arith;
