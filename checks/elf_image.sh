@@ -35,12 +35,16 @@ C
 
 cat > "$work/guest.ld" <<'LD'
 ENTRY(_start)
+PHDRS {
+    code PT_LOAD FLAGS(5);
+    data PT_LOAD FLAGS(6);
+}
 SECTIONS {
     . = 0x80000000;
-    .text : { *(.text.start) *(.text .text.*) }
-    .rodata : { *(.rodata .rodata.* .srodata .srodata.*) }
-    .data : { *(.data .data.* .sdata .sdata.*) }
-    .bss : { *(.bss .bss.* .sbss .sbss.*) }
+    .text : { *(.text.start) *(.text .text.*) } :code
+    .rodata : { *(.rodata .rodata.* .srodata .srodata.*) } :code
+    .data : { *(.data .data.* .sdata .sdata.*) } :data
+    .bss : { *(.bss .bss.* .sbss .sbss.*) } :data
     /DISCARD/ : { *(.comment) *(.note*) *(.eh_frame*) *(.riscv.attributes) }
 }
 LD

@@ -75,7 +75,7 @@ fn check_table(file: &[u8], shape: &Shape) -> Result<u64, ImageRefusal>
     Ok(len)
 }
 
-// The bytes of RAM, of which there are few.
+// The number of bytes of RAM, with its limit.
 fn ram_bytes(shape: &Shape) -> u64
     ensures value { result ≡ ram_bytes_of shape.now }
     ensures small { result ≤ 2 ^ 26 }

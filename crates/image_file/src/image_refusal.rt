@@ -14,7 +14,7 @@ pub enum ImageRefusal {
 }
 
 impl ImageRefusal {
-    // So much of an ELF file is wrong.
+    /// An ELF file, of which this is wrong at this place.
     pub(crate) fn elf(kind: ElfKind, at: u64) -> ImageRefusal
         ensures { result ≡ ImageRefusal.Elf kind at }
     {

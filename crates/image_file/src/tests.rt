@@ -1,6 +1,4 @@
-ghost use Rattle.std.specs.Prelude.{◌≡◌, ◌≤◌, ℕ, List, Option, length, IfOk, OnErr};
-ghost use Rattle.medium.specs.Count.{HasCause};
-ghost use Rattle.medium.specs.Bytes.{TakesFrom};
+ghost use Rattle.std.specs.Prelude.{Some, None};
 
 use super::*;
 use medium::{FailPlan, Failed, MemSource, Source};
@@ -256,18 +254,11 @@ struct Trickle {
 }
 
 impl Source for Trickle {
-    ghost use Rattle.std.specs.Prelude.{Some};
-
     ghost left = { λ s. Some s.inner.bytes_left };
 
     ghost faults = { λ s. s.inner.count.faults };
 
-    fn read(&mut self, buf: &mut [u8]) -> Result<usize, Failed>
-        ensures within { IfOk result (λ n. n ≤ length buf.new) }
-        ensures answer { IfOk result (λ n. TakesFrom (Some self.old.inner.bytes_left) (Some self.new.inner.bytes_left) n buf.new) }
-        ensures stays { OnErr result (Some self.new.inner.bytes_left ≡ Some self.old.inner.bytes_left) }
-        ensures cause { HasCause self.old.inner.count.faults self.new.inner.count.faults result }
-    {
+    fn read(&mut self, buf: &mut [u8]) -> Result<usize, Failed> {
         let n = buf.len().min(1);
         self.inner.read(&mut buf[..n])
     }
@@ -283,6 +274,30 @@ fn a_source_that_trickles_gives_the_same_image(rt: HostRuntime) -> Result<(), Fa
     let image = read_image(alloc, &mut trickle, &shape).unwrap_or(Vec::new(alloc));
     let wanted = [0x93, 2, 0x10, 0, 0x73, 0, 0, 0, 0, 0, 0, 0, 0, 0, 0, 0];
     assert_eq!(rt; image.as_slice(), wanted.as_slice());
+    Ok(())
+}
+
+// A source without an end, which tells no bytes.
+struct Endless;
+
+impl Source for Endless {
+    ghost left = { λ _. None };
+
+    ghost faults = { λ _. 0 };
+
+    fn read(&mut self, buf: &mut [u8]) -> Result<usize, Failed> {
+        Ok(buf.len())
+    }
+}
+
+#[test]
+fn a_source_without_an_end_is_read_to_the_limit(rt: HostRuntime) -> Result<(), Fail> {
+    let shape = Shape::new(1, 1, 1)?;
+    let too_long = ImageFault::Refused(ImageRefusal::TooLong(134_217_729));
+    assert_eq!(rt;
+        read_image(rt.alloc(), &mut Endless, &shape).err(),
+        Some(too_long)
+    );
     Ok(())
 }
 
