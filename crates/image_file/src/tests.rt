@@ -278,6 +278,7 @@ fn a_source_that_trickles_gives_the_same_image(rt: HostRuntime) -> Result<(), Fa
 }
 
 // A source without an end, which tells no bytes.
+#[derive(Drop)]
 struct Endless;
 
 impl Source for Endless {
