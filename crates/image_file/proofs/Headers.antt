@@ -7,7 +7,7 @@ use Rattle.image_file.specs.declared.image_refusal.ImageRefusal.{ImageRefusal}
 use Rattle.image_file.specs.declared.image_refusal.ImageRefusal.TheVariants.{Elf}
 use Rattle.image_file.specs.declared.elf_kind.ElfKind.TheVariants.{Table}
 use Rattle.image_file.specs.declared.program_header.ProgramHeader.{ProgramHeader}
-use Rattle.image_file.specs.Elf.{header_place, program_header, is_placed, lies_in, segment_fault, header_fault, table_fault, reach_of, image_len, e_phnum, file_header_fault, memory, elf_of, IsSoundSegment, IsSoundHeader}
+use Rattle.image_file.specs.Elf.{header_place, program_header, is_placed, lies_in, segment_fault, header_fault, table_fault, reach_of, image_len, e_phnum, file_header_fault, memory, elf_of, IsSoundHeader}
 
 -- the fault of a test that doesn't come
 not_taken : {A : Type 0} (b : Bool) (x : A) (rest : Option A) → (if b then Some x else rest) ≡ None → (b ≡ false) × (rest ≡ None)

@@ -1,12 +1,11 @@
 -- The memory that segments make, segment after segment and piece after piece.
-use Rattle.std.proofs.Common.{◌≡◌, ℕ, suc, ◌+◌, ◌-◌, ◌<◌, ◌≤◌, Bool, true, false, not, ◌&&◌, List, [], ◌++◌, length, map, get_or, refl, sym, ap, ◌∙◌, subst, inl, inr, arith, add-one, length-append}
-use Rattle.std.specs.Prelude.{nat_lt, nat_le, slice_index, if◌then◌else◌}
+use Rattle.std.proofs.Common.{◌≡◌, ℕ, ◌+◌, ◌-◌, ◌<◌, ◌≤◌, Bool, true, false, List, [], ◌++◌, length, map, get_or, refl, sym, ap, ◌∙◌, subst, inl, inr, arith, add-one, length-append}
+use Rattle.std.specs.Prelude.{slice_index, if◌then◌else◌}
 use Rattle.std.specs.List.{range_with_len}
 use Rattle.std.proofs.lemmas.Bool.{cases_lt, false≢true}
 use Rattle.std.proofs.lemmas.List.{ext_get_or, get_or_append_left, get_or-append_right}
 use Rattle.std.proofs.lemmas.List.FromFn.{length-map-range_with_len, get_or-map-range_with_len, fill_by_all}
-use Rattle.image_file.specs.declared.program_header.ProgramHeader.{ProgramHeader}
-use Rattle.image_file.specs.Elf.{e_phnum, program_header, is_placed, covers, segment_byte, memory_byte, memory}
+use Rattle.image_file.specs.Elf.{e_phnum, program_header, covers, segment_byte, memory_byte, memory}
 
 -- one more layer over a byte
 over_byte : (covered : Bool) (byte old was new : ℕ) → new ≡ (if covered then byte else old) → (covered ≡ false → old ≡ was) → new ≡ (if covered then byte else was)

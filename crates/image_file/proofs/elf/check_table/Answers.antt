@@ -1,9 +1,9 @@
 -- The program headers in turn: the first fault, and the highest end.
-use Rattle.std.proofs.Common.{◌≡◌, ℕ, ◌+◌, ◌^◌, ◌<◌, ◌≤◌, true, None, Some, max, sym, ap, subst, ◌∙◌, arith, below_more}
+use Rattle.std.proofs.Common.{◌≡◌, ◌+◌, ◌^◌, ◌<◌, ◌≤◌, true, None, max, sym, ap, subst, ◌∙◌, arith, below_more}
 use Rattle.std.specs.Option.{option_or}
 use Rattle.std.proofs.lemmas.Result.{err_from_is_err_and}
 use Rattle.image_file.specs.declared.program_header.ProgramHeader.{ProgramHeader}
-use Rattle.image_file.specs.Elf.{is_placed, program_header, header_fault, table_fault, reach_of, image_len}
+use Rattle.image_file.specs.Elf.{is_placed, program_header, header_fault, reach_of}
 use Rattle.image_file.proofs.Headers.{sound_header, reach_fits, table_fault-more, table_fault-none, table_fault-first, image_len-more, image_len-none}
 use Rattle.image_file.proofs.elf.check_table.Goals as goal
 

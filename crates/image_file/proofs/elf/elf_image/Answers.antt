@@ -1,5 +1,5 @@
 -- The first fault of the file, or its image.
-use Rattle.std.proofs.Common.{◌≡◌, List, ℕ, Ok, sym, ap, ◌∙◌, arith}
+use Rattle.std.proofs.Common.{List, ℕ, Ok, sym, ap, ◌∙◌}
 use Rattle.std.proofs.lemmas.Result.{err_from_is_err_and}
 use Rattle.ram_block.specs.Shape.{ram_bytes_of}
 use Rattle.image_file.specs.Elf.{memory}

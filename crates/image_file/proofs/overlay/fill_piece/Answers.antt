@@ -1,5 +1,5 @@
 -- The segments in their order, from the last that has the whole piece.
-use Rattle.std.proofs.Common.{◌≡◌, ℕ, ◌+◌, ◌<◌, length, slice_index, sym, ap, subst, ◌∙◌, arith, rules, if◌then◌else◌}
+use Rattle.std.proofs.Common.{◌≡◌, ◌+◌, ◌<◌, length, slice_index, sym, ap, subst, ◌∙◌, arith, rules, if◌then◌else◌}
 use Rattle.std.specs.Prelude.{replicate}
 use Rattle.std.proofs.lemmas.List.{get_or-replicate}
 use Rattle.image_file.specs.declared.program_header.ProgramHeader.{ProgramHeader}

@@ -1,5 +1,5 @@
 -- The memory, piece after piece.
-use Rattle.std.proofs.Common.{◌≡◌, ◌+◌, ◌++◌, ◌≤◌, vec_len, length, take, sym, ap, ◌∙◌, arith}
+use Rattle.std.proofs.Common.{◌+◌, ◌++◌, ◌≤◌, vec_len, length, take, sym, ap, ◌∙◌, arith}
 use Rattle.std.proofs.lemmas.List.{length-take}
 use Rattle.image_file.specs.Elf.{memory}
 use Rattle.image_file.proofs.Segments.{memory-none, memory-append}
