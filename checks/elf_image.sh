@@ -1,0 +1,128 @@
+#!/usr/bin/env bash
+# Builds a small C program for rv64i with each RISC-V toolchain at hand, gives rvsnap the ELF file as it is, and
+# compares the first page of RAM in the snapshot with the program's bytes and with zeros behind them. Skips where
+# neither GNU gcc for riscv64 nor clang with lld is at hand.
+set -euo pipefail
+cd "$(dirname "$0")/.."
+
+program=crates/rvsnap/out/rvsnap
+pages_at=$((0x100000))
+page=4096
+work=$(mktemp -d)
+trap 'rm -rf "$work"' EXIT
+
+cat > "$work/guest.c" <<'C'
+// Writes a line to the serial device, counts the calls in memory, and ends at an ebreak.
+static const char line[] = "hello from an ELF file\n";
+static unsigned long calls = 7;
+static volatile unsigned char seen[64];
+
+static void send(char byte) {
+    *(volatile char *)0x10000000 = byte;
+    calls += 1;
+    seen[calls & 63] = (unsigned char)byte;
+}
+
+__attribute__((section(".text.start"))) void _start(void) {
+    for (const char *at = line; *at != 0; at += 1) {
+        send(*at);
+    }
+    __asm__ volatile("ebreak");
+    for (;;) {
+    }
+}
+C
+
+cat > "$work/guest.ld" <<'LD'
+ENTRY(_start)
+PHDRS {
+    code PT_LOAD FLAGS(5);
+    data PT_LOAD FLAGS(6);
+}
+SECTIONS {
+    . = 0x80000000;
+    .text : { *(.text.start) *(.text .text.*) } :code
+    .rodata : { *(.rodata .rodata.* .srodata .srodata.*) } :code
+    .data : { *(.data .data.* .sdata .sdata.*) } :data
+    .bss : { *(.bss .bss.* .sbss .sbss.*) } :data
+    /DISCARD/ : { *(.comment) *(.note*) *(.eh_frame*) *(.riscv.attributes) }
+}
+LD
+
+flags=(-march=rv64i -mabi=lp64 -mcmodel=medany -mno-relax -O1 -ffreestanding -fno-pic -nostdlib -static)
+
+with_gnu() {
+    riscv64-unknown-elf-gcc "${flags[@]}" -T "$work/guest.ld" -o "$work/guest.elf" "$work/guest.c"
+    riscv64-unknown-elf-objcopy -O binary "$work/guest.elf" "$work/guest.bin"
+}
+
+with_llvm() {
+    clang --target=riscv64-unknown-elf "${flags[@]}" -c -o "$work/guest.o" "$work/guest.c"
+    ld.lld -static -T "$work/guest.ld" -o "$work/guest.elf" "$work/guest.o"
+    llvm-objcopy -O binary "$work/guest.elf" "$work/guest.bin"
+}
+
+has() {
+    command -v "$1" > "$work/found"
+}
+
+has_gnu() {
+    has riscv64-unknown-elf-gcc && has riscv64-unknown-elf-objcopy
+}
+
+has_llvm() {
+    has clang && has ld.lld && has llvm-objcopy && clang --print-targets | grep -q riscv64
+}
+
+# accept TOOLCHAIN FUNCTION: the file that the function builds is accepted, and its bytes stand in RAM.
+accept() {
+    rm -f "$work/guest.elf" "$work/guest.bin" "$work/guest.snap"
+    "$2"
+    local status=0
+    "$program" save image="$work/guest.elf" out="$work/guest.snap" vcpus=1 blocks=1 pages=1 stop=0 run=0 || status=$?
+    if [ "$status" -ne 0 ]; then
+        echo "elf_image: rvsnap ended with status $status on the file that $1 built"
+        exit 1
+    fi
+    local len
+    len=$(wc -c < "$work/guest.bin")
+    { cat "$work/guest.bin"; head -c $((page - len)) /dev/zero; } > "$work/wanted"
+    tail -c +$((pages_at + 1)) "$work/guest.snap" | head -c "$page" > "$work/ram"
+    if ! cmp "$work/wanted" "$work/ram"; then
+        echo "elf_image: the first page of RAM isn't the program that $1 built"
+        exit 1
+    fi
+    echo "elf_image: the ELF file that $1 built is accepted, and its $len bytes stand at the start of RAM"
+}
+
+# Whether the program is there, and no source of a crate is newer.
+is_built() {
+    [ -x "$program" ] && [ -z "$(find crates/*/src -newer "$program" -print -quit)" ]
+}
+
+if ! has_gnu && ! has_llvm; then
+    echo "elf_image: skipped, since neither riscv64-unknown-elf-gcc nor clang with ld.lld is installed"
+    exit 0
+fi
+
+if ! is_built; then
+    if ! has rt; then
+        echo "elf_image: skipped, since $program is not built and rt is not installed"
+        exit 0
+    fi
+    echo "elf_image: building $program"
+    # It is given no words, and so ends with status 1: what counts is that it was built.
+    (cd crates/rvsnap && rt run) > "$work/build" 2>&1 || true
+    if [ ! -x "$program" ]; then
+        echo "elf_image: 'rt run' failed in crates/rvsnap:"
+        cat "$work/build"
+        exit 1
+    fi
+fi
+
+if has_gnu; then
+    accept "GNU gcc" with_gnu
+fi
+if has_llvm; then
+    accept "clang" with_llvm
+fi
