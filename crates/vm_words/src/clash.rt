@@ -1,4 +1,4 @@
-ghost use Rattle.std.specs.Prelude.{◌≡◌, ◌<◌, ◌≤◌, map, string_bytes, length, slice_get, IfSome};
+ghost use Rattle.std.specs.Prelude.{◌≡◌, ◌≢◌, ◌<◌, ◌≤◌, map, string_bytes, length, slice_get, IfSome};
 ghost use Rattle.vm_words.specs.Line.{clash_at, faults_by, is_absent_turns, is_clash, is_idle_relay, is_len_past_ram};
 
 use crate::given::{has_mode, number_given, shape_given};
@@ -11,6 +11,7 @@ pub(crate) fn first_clash(command: CommandName, rest: &[String]) -> Option<(u32,
     requires { length rest.now ≤ 12 }
     ensures fault { let words = map string_bytes rest.now in result ≡ slice_get (faults_by (clash_at command words) words) 0 }
     ensures index { IfSome result (λ fault. fault.0 < 16) }
+    ensures kind { IfSome result (λ fault. fault.1 ≢ UsageKind.NeedsThreads) }
 {
     for (i, word) in rest.iter().enumerate() {
         if is_clash(command, rest, word.as_str()) {

@@ -39,7 +39,10 @@ impl CommandName {
     pub(crate) fn named(text: &str) -> Option<CommandName>
         ensures { result ≡ command_named text.now }
     {
-        COMMANDS.iter().copied().find(|command| command.text() == text)
+        COMMANDS
+            .iter()
+            .copied()
+            .find(|command| command.text() == text)
     }
 
     /// How the command is written.

@@ -9,7 +9,8 @@ use std::alloc::Global;
 pub fn next_draw(draw: u64) -> u64
     ensures { result ≡ next draw }
 {
-    draw.wrapping_mul(6364136223846793005).wrapping_add(1442695040888963407)
+    draw.wrapping_mul(6364136223846793005)
+        .wrapping_add(1442695040888963407)
 }
 
 /// The first `n` turns that a seed gives among so many vCPUs and the saver.

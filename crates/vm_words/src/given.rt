@@ -5,7 +5,9 @@ ghost use Rattle.vm_words.specs.Line.{has_mode, number_given, shape_given};
 
 use crate::number::number_within;
 use crate::turns::turns_named;
-use crate::{CommandName, Input, Job, KeyName, MAX_TURNS, Mode, Quantity, Turns, turns_of, value_of};
+use crate::{
+    CommandName, Input, Job, KeyName, MAX_TURNS, Mode, Quantity, Turns, turns_of, value_of,
+};
 use ram_block::{NoMemory, Shape};
 use std::alloc::Global;
 
@@ -46,7 +48,11 @@ pub(crate) fn has_mode(rest: &[String], mode: &str) -> bool
 }
 
 /// The job of a command and the rest of its line, where nothing is wrong with them.
-pub(crate) fn job_given(alloc: Global, command: CommandName, rest: &[String]) -> Result<Job, NoMemory>
+pub(crate) fn job_given(
+    alloc: Global,
+    command: CommandName,
+    rest: &[String],
+) -> Result<Job, NoMemory>
     ensures { IfOk result (λ job. job ≡ job_given command (map string_bytes rest.now)) }
 {
     match command {
@@ -136,7 +142,12 @@ fn turns_given(alloc: Global, rest: &[String]) -> Result<Turns, NoMemory>
         Some(text) => turns_named(alloc, text),
         None => {
             let vcpus = number_given(rest, Quantity::Vcpus) as u32;
-            turns_of(alloc, number_given(rest, Quantity::Seed), vcpus, MAX_TURNS as u32)
+            turns_of(
+                alloc,
+                number_given(rest, Quantity::Seed),
+                vcpus,
+                MAX_TURNS as u32,
+            )
         }
     }
 }

@@ -25,17 +25,28 @@ pub enum Job {
         relay: u32,
     },
     /// Load a snapshot file and run its guest on.
-    Restore { run: u32, lazy: bool },
+    Restore {
+        run: u32,
+        lazy: bool,
+    },
     /// Load a snapshot file.
     CheckFile,
     /// Assemble a text.
     Assemble,
     /// Save the guest that is made of a seed.
-    Workload { seed: u64 },
+    Workload {
+        seed: u64,
+    },
     /// Read bytes of RAM out of a snapshot file. The place counts from the start of RAM.
-    Peek { shape: Shape, at: u32, len: u32 },
+    Peek {
+        shape: Shape,
+        at: u32,
+        len: u32,
+    },
     /// Run the guest of a snapshot file on and write what changed.
-    Layer { run: u32 },
+    Layer {
+        run: u32,
+    },
     /// Join a snapshot file with a layer.
     Join,
     /// Run a guest in threads and write the order of its events.
@@ -45,5 +56,8 @@ pub enum Job {
         input: Input,
     },
     /// Run a guest in a recorded order.
-    Replay { shape: Shape, input: Input },
+    Replay {
+        shape: Shape,
+        input: Input,
+    },
 }

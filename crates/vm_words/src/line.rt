@@ -1,4 +1,4 @@
-ghost use Rattle.std.specs.Prelude.{◌≡◌, ◌<◌, ◌≤◌, map, string_bytes, length, slice_get, IfOk, IfErr, IfSome, IfNone};
+ghost use Rattle.std.specs.Prelude.{◌≡◌, ◌≢◌, ◌<◌, ◌≤◌, map, string_bytes, length, slice_get, IfOk, IfErr, IfSome, IfNone};
 ghost use Rattle.vm_words.specs.Job.{job, HasSmallIndex, IsOfWords, IsUsageOf};
 ghost use Rattle.vm_words.specs.Line.{faults, faults_by, kind_at, lacks_key, word_kind};
 
@@ -40,6 +40,7 @@ pub fn line_of(alloc: Global, words: &[String]) -> Result<Job, WordsFault>
 fn first_fault(command: CommandName, rest: &[String]) -> Option<(u32, UsageKind)>
     ensures fault { result ≡ slice_get (faults command (map string_bytes rest.now)) 0 }
     ensures index { IfSome result (λ fault. fault.0 < 16) }
+    ensures kind { IfSome result (λ fault. fault.1 ≢ UsageKind.NeedsThreads) }
 {
     if let Some(fault) = first_wrong_word(command, rest) {
         return Some(fault);
@@ -54,6 +55,7 @@ fn first_fault(command: CommandName, rest: &[String]) -> Option<(u32, UsageKind)
 fn first_wrong_word(command: CommandName, rest: &[String]) -> Option<(u32, UsageKind)>
     ensures fault { let words = map string_bytes rest.now in result ≡ slice_get (faults_by (kind_at command words) words) 0 }
     ensures index { IfSome result (λ fault. fault.0 < 16) }
+    ensures kind { IfSome result (λ fault. fault.1 ≢ UsageKind.NeedsThreads) }
     ensures few { IfNone result (length rest.now ≤ 12) }
 {
     for (i, word) in rest.iter().enumerate() {
@@ -66,7 +68,8 @@ fn first_wrong_word(command: CommandName, rest: &[String]) -> Option<(u32, Usage
 
 // What is wrong with a word, with the words before it.
 fn word_kind(command: CommandName, before: &[String], word: &str) -> Option<UsageKind>
-    ensures { result ≡ word_kind command (map string_bytes before.now) word.now }
+    ensures value { result ≡ word_kind command (map string_bytes before.now) word.now }
+    ensures kind { IfSome result (λ kind. kind ≢ UsageKind.NeedsThreads) }
 {
     let Some((name, value)) = word.split_once('=') else {
         return Some(UsageKind::NoEquals);
@@ -87,5 +90,8 @@ fn word_kind(command: CommandName, before: &[String], word: &str) -> Option<Usag
 fn lacks_key(command: CommandName, rest: &[String]) -> bool
     ensures { result ≡ lacks_key command (map string_bytes rest.now) }
 {
-    command.required().iter().any(|key| value_of(rest, key.text()).is_none())
+    command
+        .required()
+        .iter()
+        .any(|key| value_of(rest, key.text()).is_none())
 }

@@ -1,4 +1,6 @@
 ghost use Rattle.std.specs.Prelude.{◌≡◌};
+ghost use Rattle.std.specs.Char.{is_ascii_digit};
+ghost use Rattle.std.specs.List.{list_all};
 ghost use Rattle.vm_words.specs.Number.{is_decimal, number_within};
 
 /// The most digits of a number.
@@ -21,7 +23,12 @@ pub(crate) fn number_within(least: u64, most: u64, text: &str) -> Option<u64>
 fn is_decimal(text: &str) -> bool
     ensures { result ≡ is_decimal text.now }
 {
-    !text.is_empty()
-        && text.len() <= MAX_DIGITS
-        && text.as_bytes().iter().all(|byte| byte.is_ascii_digit())
+    !text.is_empty() && text.len() <= MAX_DIGITS && are_digits(text)
+}
+
+// Whether every byte of a text is a digit.
+fn are_digits(text: &str) -> bool
+    ensures { result ≡ list_all is_ascii_digit text.now }
+{
+    text.as_bytes().iter().all(|byte| byte.is_ascii_digit())
 }
