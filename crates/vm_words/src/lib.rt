@@ -26,3 +26,6 @@ pub(crate) use key::{KeyName, Quantity};
 pub use line::line_of;
 pub use turns::{MAX_TURNS, TurnOf, Turns};
 pub use value::value_of;
+
+#[cfg(test)]
+mod tests;
