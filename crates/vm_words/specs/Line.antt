@@ -24,7 +24,8 @@ use Rattle.vm_words.specs.Word.{has_equals, key_part, value_part, value_after, v
 abbrev pub given : List (List ℕ) → KeyName → Option (List ℕ)
 given rest key = value_in rest (key_text key)
 
--- the number that it gives, or its default
+-- the number that it gives, or its default; the default in place of a value out of form is never seen, since that
+-- word is a fault
 abbrev pub number_given : List (List ℕ) → Quantity → ℕ
 number_given rest quantity =
     unwrap_or (option_and_then (number_within (least_of quantity) (most_of quantity)) (given rest (Number quantity))) (default_of quantity)
