@@ -1,0 +1,6 @@
+pub mod Draws
+pub mod Faults
+pub mod FewWords
+pub mod Jobs
+pub mod Numerals
+pub mod Prefixes

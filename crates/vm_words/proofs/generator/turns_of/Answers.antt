@@ -1,0 +1,12 @@
+use Rattle.std.proofs.Common.{ap, sym, ◌∙◌, ◌++◌, ◌∷◌, [], refl, ◌≡◌, ◌+◌}
+use Rattle.vm_words.specs.Generator.{next, draw, turn_drawn}
+use Rattle.vm_words.proofs.Draws.{draw_none, draw_more, turns_none, turns_more}
+use Rattle.vm_words.proofs.generator.turns_of.Goals as goal
+
+pub loop-init : goal.loop-init
+loop-init c = record { drawn = sym (draw_none c.args.seed); turns = c.new-turns.ensures.items ∙ sym (turns_none c.args.seed c.args.vcpus) }
+
+pub loop-preserved : goal.loop-preserved
+loop-preserved c =
+    let drawn : c.next_draw-draw.result ≡ draw c.args.seed (c.loop.counter + 1) = c.next_draw-draw.ensures ∙ ap next c.loop.invariant.drawn ∙ sym (draw_more c.args.seed c.loop.counter) in
+    record { drawn = drawn; turns = rw (turns_more c.args.seed c.args.vcpus c.loop.counter, ← c.loop.invariant.turns, ← drawn, ← c.turn_drawn.ensures) c.in_ok-push.ensures.items }

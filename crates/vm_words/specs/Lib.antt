@@ -1,0 +1,9 @@
+pub mod Command
+pub mod Form
+pub mod Generator
+pub mod Job
+pub mod Key
+pub mod Line
+pub mod Number
+pub mod Turns
+pub mod Word
