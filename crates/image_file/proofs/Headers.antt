@@ -25,15 +25,18 @@ pub record IsFaultless (file : List ℕ) (ram : ℕ) (h : ProgramHeader) : Type 
   pub range : h.p_offset + h.p_filesz ≤ length file
   pub place : lies_in h ram ≡ true
 
+-- where two tests hold, the first does
 both_left : (a b : Bool) → a && b ≡ true → a ≡ true
 both_left true b h = refl
 both_left false b h = cc
 
+-- where the first test holds, and not "the first but not the second", the second holds
 and_not : (a b : Bool) → a ≡ true → (a && not b) ≡ false → b ≡ true
 and_not true true p q = refl
 and_not true false p q = cc
 and_not false b p q = cc
 
+-- a placed segment whose header has no fault
 faultless : (file : List ℕ) (ram at : ℕ) (h : ProgramHeader) → is_placed h ≡ true → segment_fault file ram at h ≡ None → IsFaultless file ram h
 faultless file ram at h placed none =
     let tests = loadable (nat_eq h.p_type 1) _ (both_left _ _ placed) none in
@@ -57,6 +60,7 @@ by_test : (P : ℕ → Type 0) (b : Bool) (x y : ℕ) → (b ≡ true → P x) �
 by_test P true x y p q = p refl
 by_test P false x y p q = q refl
 
+-- a segment that lies in RAM ends in RAM
 reach_within : (h : ProgramHeader) (ram : ℕ) → (is_placed h ≡ true → lies_in h ram ≡ true) → reach_of h ≤ ram
 reach_within h ram lies = by_test (λ n. n ≤ ram) (is_placed h) _ _ (λ placed. grind (arith, nat_tests, lies placed)) (λ _. omega arith)
 
@@ -67,18 +71,22 @@ reach_fits file ram j none =
     let tests = not_taken (nat_lt (length file) (header_place file j + 56)) (Elf Table 32) (segment_fault file ram (header_place file j) (program_header file j)) none in
     reach_within (program_header file j) ram (λ placed. (faultless file ram (header_place file j) (program_header file j) placed tests.1).place)
 
+-- the first fault, with one program header more
 pub table_fault-more : (file : List ℕ) (ram j : ℕ) → table_fault file ram (j + 1) ≡ option_or (table_fault file ram j) (header_fault file ram j)
 unfolding table_fault
 table_fault-more file ram j = rw add-one refl
 
+-- the highest end, with one program header more
 pub image_len-more : (file : List ℕ) (j : ℕ) → image_len file (j + 1) ≡ max (image_len file j) (reach_of (program_header file j))
 unfolding image_len
 image_len-more file j = rw add-one refl
 
+-- no fault before the first program header
 pub table_fault-none : (file : List ℕ) (ram : ℕ) → table_fault file ram 0 ≡ None
 unfolding table_fault
 table_fault-none file ram = refl
 
+-- no end before the first program header
 pub image_len-none : (file : List ℕ) → image_len file 0 ≡ 0
 unfolding image_len
 image_len-none file = refl
@@ -102,10 +110,12 @@ pub elf_of-header : (file : List ℕ) (ram : ℕ) (r : ImageRefusal) → Some r 
 unfolding elf_of
 elf_of-header file ram r is = rw (← is) refl
 
+-- a fault of the program headers, behind a file header without one
 pub elf_of-table : (file : List ℕ) (ram : ℕ) (r : ImageRefusal) → None ≡ file_header_fault file → Some r ≡ table_fault file ram (e_phnum file) → elf_of file ram ≡ Err r
 unfolding elf_of
 elf_of-table file ram r none is = rw (← none, ← is) refl
 
+-- an image, where there is no fault
 pub elf_of-ok : (file : List ℕ) (ram : ℕ) → None ≡ file_header_fault file → None ≡ table_fault file ram (e_phnum file) → elf_of file ram ≡ Ok (memory file 0x80000000 (image_len file (e_phnum file)))
 unfolding elf_of
 elf_of-ok file ram none clear = rw (← none, ← clear) refl

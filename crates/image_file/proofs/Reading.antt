@@ -7,6 +7,7 @@ use Rattle.medium.specs.Bytes.{TakesFrom}
 use Rattle.image_file.specs.declared.image_refusal.ImageRefusal.TheVariants.{TooLong}
 use Rattle.image_file.specs.Image.{behind, raw_of, Moves, MovesBytes, ReadsOn}
 
+-- nothing was read
 pub reads_none : (most : ℕ) (left : Option (List ℕ)) → ReadsOn most left left
 unfolding behind
 reads_none most (Some old) = (0, omega arith, refl)
@@ -23,6 +24,7 @@ took (Some old) next n buf all after some takes is = record {
 }
 took None next n buf all after some takes is = tt
 
+-- one answer of a source reads on
 pub took_on : (most : ℕ) (left next : Option (List ℕ)) (n : ℕ) (buf : List ℕ) → n ≤ most → TakesFrom left next n buf → ReadsOn most left next
 unfolding behind
 took_on most (Some old) next n buf le takes = (n, le, takes.rest)
@@ -34,10 +36,12 @@ pub record IsRead (old : List ℕ) (now : Option (List ℕ)) (all : List ℕ) : 
   pub front : all ≡ take (length all) old
   pub within : length all ≤ length old
 
+-- the same, where the bytes are told
 abbrev pub HasRead : Option (List ℕ) → Option (List ℕ) → List ℕ → Type 0
 HasRead (Some old) now all = IsRead old now all
 HasRead None now all = Unit {0}
 
+-- before the first piece
 pub read_none : (left : Option (List ℕ)) (all : List ℕ) → all ≡ [] → HasRead left left all
 unfolding behind
 read_none (Some old) all is = let none : length all ≡ 0 = ap length is in record {
@@ -75,6 +79,7 @@ pub record IsWhole (limit : ℕ) (bytes : List ℕ) (next : Option (List ℕ)) (
   pub end : next ≡ Some (behind (limit + 1) bytes)
   pub nothing : next ≡ Some []
 
+-- an answer of no byte within the limit is the end
 pub ended : (limit n : ℕ) (left now next : Option (List ℕ)) (all after : List ℕ) → HasRead left now all → Moves now next n all after → n ≡ 0 → length after ≤ limit
     → (bytes : List ℕ) → left ≡ Some bytes → IsWhole limit bytes next after
 unfolding behind

@@ -12,11 +12,13 @@ over_byte : (covered : Bool) (byte old was new : ℕ) → new ≡ (if covered th
 over_byte true byte old was new is below = is
 over_byte false byte old was new is below = is ∙ below refl
 
+-- a byte of memory, with one program header more
 pub memory_byte-more : (file : List ℕ) (j address : ℕ)
     → memory_byte file (j + 1) address ≡ (if covers (program_header file j) address then segment_byte file (program_header file j) address else memory_byte file j address)
 unfolding memory_byte
 memory_byte-more file j address = rw add-one refl
 
+-- memory before the first program header is zeros
 pub memory_byte-none : (file : List ℕ) (address : ℕ) → memory_byte file 0 address ≡ 0
 unfolding memory_byte
 memory_byte-none file address = refl
@@ -50,14 +52,17 @@ pub memory-from : (file piece : List ℕ) (from : ℕ) → ((k : ℕ) → k < le
 unfolding memory
 memory-from file piece from each = fill_by_all (λ k. memory_byte file (e_phnum file) (from + k)) piece (length piece) 0 refl each
 
+-- memory has as many bytes as were asked for
 pub length-memory : (file : List ℕ) (from n : ℕ) → length (memory file from n) ≡ n
 unfolding memory
 length-memory file from n = length-map-range_with_len (λ k. memory_byte file (e_phnum file) (from + k)) 0 n
 
+-- a byte of a piece of memory is that of its address
 get_or-memory : (file : List ℕ) (from n k : ℕ) → k < n → get_or (memory file from n) k 0 ≡ memory_byte file (e_phnum file) (from + k)
 unfolding memory
 get_or-memory file from n k less = get_or-map-range_with_len (λ i. memory_byte file (e_phnum file) (from + i)) 0 n k k 0 less (omega arith)
 
+-- no bytes of memory
 pub memory-none : (file : List ℕ) (from n : ℕ) → n ≡ 0 → [] ≡ memory file from n
 unfolding memory
 memory-none file from n none = ap (λ i. map (λ k. memory_byte file (e_phnum file) (from + k)) (range_with_len 0 i)) (sym none)

@@ -1,4 +1,4 @@
-ghost use Rattle.std.specs.Prelude.{◌≡◌, ℕ, ◌+◌, ◌-◌, ◌*◌, ◌^◌, ◌++◌, ◌<◌, ◌≤◌, true, length, vec_len, slice_index, IfOk, OnOk, if◌then◌else◌};
+ghost use Rattle.std.specs.Prelude.{◌≡◌, ℕ, ◌+◌, ◌-◌, ◌^◌, ◌++◌, ◌<◌, ◌≤◌, true, length, vec_len, slice_index, IfOk, OnOk, if◌then◌else◌};
 ghost use Rattle.image_file.specs.Elf.{e_phnum, program_header, is_placed, covers, segment_byte, memory, AreSound, IsSoundSegment};
 
 use crate::program_header::{ProgramHeader, header_count};
