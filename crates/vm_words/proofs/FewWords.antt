@@ -1,12 +1,12 @@
 -- Few words pass, since no key may stand twice.
-use Rattle.std.proofs.Common.{◌≡◌, ℕ, zero, suc, ◌+◌, ◌≤◌, ◌<◌, Bool, true, false, List, [], ◌∷◌, ◌++◌, length, take, get_or, codes, cond, Option, Some, None, is_some, refl, sym, ap, ◌∙◌, arith, inl, inr, find}
+use Rattle.std.proofs.Common.{◌≡◌, ℕ, zero, suc, ◌+◌, ◌≤◌, ◌<◌, Bool, true, false, List, [], ◌∷◌, ◌++◌, length, take, get_or, codes, cond, Option, Some, None, is_some, refl, ap, ◌∙◌, arith, inl, inr, find}
 use Rattle.std.specs.List.{position_or_len}
 use Rattle.std.specs.Option.{option_or, option_map_or}
 use Rattle.std.specs.Str.{bytes_eq}
 use Rattle.std.proofs.lemmas.Bool.{cases_Bool, eqb-true}
 use Rattle.std.proofs.lemmas.List.{take_more}
 use Rattle.std.proofs.lemmas.Slice.Eq.{bytes_eq-Decides}
-use Rattle.vm_words.specs.declared.fault.UsageKind.TheVariants.{NoEquals, Key, Twice}
+use Rattle.vm_words.specs.declared.fault.UsageKind.TheVariants.{Key}
 use Rattle.vm_words.specs.declared.command.CommandName.{CommandName}
 use Rattle.vm_words.specs.declared.command.CommandName.TheVariants.{Save, Restore, Check, Asm, Workload, Peek, Layer, Join, Record, Replay}
 use Rattle.vm_words.specs.declared.key.KeyName.{KeyName}

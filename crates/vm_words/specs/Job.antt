@@ -1,5 +1,5 @@
 -- The job that words give, or the first that is wrong and how (this project's own, docs/COMMAND_LINE.md).
-use Rattle.std.specs.Prelude.{◌≡◌, ◌≢◌, ℕ, ◌<◌, Bool, List, [], ◌∷◌, codes, Option, Some, None, Result, Ok, Err, slice_get, unwrap_or, if◌then◌else◌}
+use Rattle.std.specs.Prelude.{◌≡◌, ◌≢◌, ℕ, ◌<◌, List, [], ◌∷◌, codes, Result, Ok, Err, slice_get, unwrap_or, if◌then◌else◌}
 use Rattle.std.specs.Option.{option_map_or}
 use Rattle.vm_words.specs.declared.turns.TurnOf.{TurnOf}
 use Rattle.vm_words.specs.declared.turns.TheConstants.{MAX_TURNS}

@@ -1,6 +1,6 @@
 -- What is wrong with a line, in the order in which it is looked at (this project's own, docs/COMMAND_LINE.md). A word
 -- of the rest of a line, behind the command, is told by its place there, and a fault by its index in the whole line.
-use Rattle.std.specs.Prelude.{ℕ, ◌+◌, ◌<◌, ◌*◌, Bool, false, not, ◌&&◌, ◌||◌, ◌==◌, nat_lt, List, [], ◌∷◌, ◌++◌, length, take, codes, slice_index_or, filter_map, unwrap_or, Option, Some, None, is_some, is_none, if◌then◌else◌}
+use Rattle.std.specs.Prelude.{ℕ, ◌+◌, Bool, false, not, ◌&&◌, ◌||◌, ◌==◌, nat_lt, List, [], ◌∷◌, ◌++◌, length, take, codes, slice_index_or, filter_map, unwrap_or, Option, Some, None, is_some, is_none, if◌then◌else◌}
 use Rattle.std.specs.List.{list_any, range_with_len}
 use Rattle.std.specs.Option.{option_and_then, option_map, option_map_or}
 use Rattle.std.specs.Str.{bytes_eq}

@@ -1,5 +1,5 @@
 -- A word of a line: a key and its value round the first `=` (this project's own, docs/COMMAND_LINE.md).
-use Rattle.std.specs.Prelude.{ℕ, ◌+◌, Bool, ◌==◌, List, [], ◌∷◌, ◌++◌, length, drop, codes, nat_eq, Option, Some, None, if◌then◌else◌}
+use Rattle.std.specs.Prelude.{ℕ, Bool, ◌==◌, List, [], ◌∷◌, ◌++◌, length, drop, codes, nat_eq, Option, Some, None, if◌then◌else◌}
 use Rattle.std.specs.List.{starts_with, list_any, before_first, after_first}
 use Rattle.std.specs.Option.{option_or}
 

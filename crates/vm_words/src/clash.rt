@@ -9,7 +9,8 @@ use crate::{CommandName, KeyName, Quantity, UsageKind};
 /// The first word of the rest of a line whose value doesn't go together with the others, by its index in the line.
 pub(crate) fn first_clash(command: CommandName, rest: &[String]) -> Option<(u32, UsageKind)>
     requires { length rest.now ≤ 12 }
-    ensures fault { let words = map string_bytes rest.now in result ≡ slice_get (faults_by (clash_at command words) words) 0 }
+    ensures fault { let words = map string_bytes rest.now in
+        result ≡ slice_get (faults_by (clash_at command words) words) 0 }
     ensures index { IfSome result (λ fault. fault.0 < 16) }
     ensures kind { IfSome result (λ fault. fault.1 ≢ UsageKind.NeedsThreads) }
 {

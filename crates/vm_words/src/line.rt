@@ -53,7 +53,8 @@ fn first_fault(command: CommandName, rest: &[String]) -> Option<(u32, UsageKind)
 
 // The first word that is wrong by itself and the words before it. No key may stand twice, so few words pass.
 fn first_wrong_word(command: CommandName, rest: &[String]) -> Option<(u32, UsageKind)>
-    ensures fault { let words = map string_bytes rest.now in result ≡ slice_get (faults_by (kind_at command words) words) 0 }
+    ensures fault { let words = map string_bytes rest.now in
+        result ≡ slice_get (faults_by (kind_at command words) words) 0 }
     ensures index { IfSome result (λ fault. fault.0 < 16) }
     ensures kind { IfSome result (λ fault. fault.1 ≢ UsageKind.NeedsThreads) }
     ensures few { IfNone result (length rest.now ≤ 12) }

@@ -1,5 +1,5 @@
 -- The words before the first clash go together with the others.
-use Rattle.std.proofs.Common.{◌≡◌, ℕ, ◌<◌, List, length, map, string_bytes, sym, ap, ◌∙◌, arith, below_more, slice_get, None, Some, true, false}
+use Rattle.std.proofs.Common.{◌≡◌, ◌<◌, length, map, string_bytes, sym, ap, ◌∙◌, arith, below_more, slice_get, Some, true, false}
 use Rattle.std.proofs.lemmas.List.{length-map}
 use Rattle.vm_words.specs.declared.fault.UsageKind.TheVariants.{Value}
 use Rattle.vm_words.specs.Line.{clash_at, is_clash}

@@ -1,5 +1,5 @@
-use Rattle.std.proofs.Common.{ap, sym, ◌∙◌, ◌++◌, ◌∷◌, [], refl, ◌≡◌, ◌+◌}
-use Rattle.vm_words.specs.Generator.{next, draw, turn_drawn}
+use Rattle.std.proofs.Common.{ap, sym, ◌∙◌, ◌≡◌, ◌+◌}
+use Rattle.vm_words.specs.Generator.{next, draw}
 use Rattle.vm_words.proofs.Draws.{draw_none, draw_more, turns_none, turns_more}
 use Rattle.vm_words.proofs.generator.turns_of.Goals as goal
 

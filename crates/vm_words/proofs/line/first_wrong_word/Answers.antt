@@ -1,5 +1,5 @@
 -- The words before the first wrong one pass, and are few.
-use Rattle.std.proofs.Common.{◌≡◌, ℕ, ◌<◌, ◌≤◌, List, length, map, take, string_bytes, sym, ap, ◌∙◌, arith, below_more, slice_get, None, Some}
+use Rattle.std.proofs.Common.{◌≡◌, ◌<◌, ◌≤◌, length, map, take, string_bytes, sym, ap, ◌∙◌, arith, below_more, slice_get, Some}
 use Rattle.std.proofs.lemmas.List.{length-map}
 use Rattle.vm_words.specs.Line.{kind_at, word_kind}
 use Rattle.vm_words.proofs.Faults.{first_wrong, none_wrong, kind_at-map}

@@ -1,5 +1,5 @@
 -- The words are none, or a name and the rest of a line.
-use Rattle.std.proofs.Common.{◌≡◌, string_bytes, sym, ap, ◌∙◌, Some, None, Ok, Err}
+use Rattle.std.proofs.Common.{string_bytes, sym, ap, ◌∙◌, Ok}
 use Rattle.vm_words.specs.Command.{command_named}
 use Rattle.vm_words.proofs.Jobs.{job_of_none, job_unknown, job_faulty, job_right}
 use Rattle.vm_words.proofs.line.line_of.Goals as goal
