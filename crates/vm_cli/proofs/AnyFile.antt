@@ -13,7 +13,8 @@ use Rattle.mapped_ram_header.specs.Places.{bitmap_len}
 use Rattle.ram_block.specs.Page.{zero_page}
 use Rattle.ram_block.specs.Shape.{IsShape}
 use Rattle.ram_block.proofs.Pages.{length-zero_page}
-use Rattle.vm_cli.specs.Machine.{Machine, IsSized, Rest, page_of}
+use Rattle.flat_machine.specs.Machine.{MachineData, IsSized, Rest, page_of}
+use Rattle.flat_machine.specs.Page.{page_at}
 use Rattle.vm_cli.specs.DeviceText.{Two, device_text}
 use Rattle.vm_cli.specs.Layout.{StandsAt, page_bit, LaysPage, LaysBlock, Lay, Piece, byte_in, saved_bit, front_text, record_text, tail_text, bitmap_of, block_ram, block_pieces, pieces_from, pieces_of, last_piece, file_of}
 use Rattle.vm_cli.proofs.Bits.{byte_of, bit_of_byte}
@@ -34,7 +35,7 @@ zero_page_at : (i : ℕ) → i < 4096 → get_or zero_page i 0 ≡ 0
 unfolding zero_page
 zero_page_at i lt = get_or-replicate 4096 i 0 0 lt
 
-module _ (m : Machine) (shape : IsShape m.shape) (sized : IsSized m) where
+module _ (m : MachineData) (shape : IsShape m.shape) (sized : IsSized m) where
   abbrev pages : ℕ
   pages = m.shape.pages
 
@@ -187,10 +188,12 @@ module _ (m : Machine) (shape : IsShape m.shape) (sized : IsSized m) where
   page_ends p lt = omega arith
 
   length-page : (b p : ℕ) → b < m.shape.blocks → p < pages → length (page_of m (number b p)) ≡ 4096
+  unfolding page_at
   length-page b p lt small =
       omega (arith, within b lt, page_ends p small, length-take 4096 (drop (4096 * number b p) m.ram), length-drop (4096 * number b p) m.ram)
 
   page_byte : (b p i : ℕ) → i < 4096 → get_or (page_of m (number b p)) i 0 ≡ get_or m.ram (4096 * number b p + i) 0
+  unfolding page_at
   page_byte b p i lt = get_or-take 4096 (drop (4096 * number b p) m.ram) i 0 lt ∙ get_or-drop (4096 * number b p) m.ram i 0
 
   page_stands : (b p : ℕ) → b < m.shape.blocks → p < pages → StandsAt (file_of m) (pages_at b + 4096 * p) (page_of m (number b p))

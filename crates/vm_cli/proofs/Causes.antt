@@ -1,19 +1,16 @@
 -- The cause of each fault of a save, by cases on the fault.
 use Rattle.std.proofs.Common.{◌≡◌, inl, inr, ℕ, ◌+◌, ◌<◌, ◌≤◌, List, [], ◌∷◌, length, Option, Some, None, Result, Ok, Err, refl, sym, ap, subst, ◌∙◌, arith}
-use Rattle.std.proofs.Common.{Bool, cond, true, false}
-use Rattle.std.specs.Prelude.{nat_lt, nat_eq, IfSome, IfOk}
-use Rattle.std.specs.List.{starts_with}
-use Rattle.std.proofs.lemmas.List.{drop_all}
-use Rattle.ram_block.specs.Shape.{ShapeData, ram_bytes_of}
+use Rattle.std.specs.Prelude.{IfSome, IfOk}
 use Rattle.medium.specs.Count.{HasRisen}
-use Rattle.vm_cli.specs.Answer.{Given, HasItsCause, IsAccepted, EndsWith, IsNotEmpty, called_for, fault_of_save}
-use Rattle.vm_cli.specs.Image.{image_of, flat_of, behind}
+use Rattle.vm_cli.specs.Answer.{Given, HasItsCause, IsAccepted, IsFaultOfLine, EndsEarly, EndsWith, IsNotEmpty, called_for, fault_of_save}
+use Rattle.image_file.specs.Image.{image_of}
 use Rattle.vm_cli.specs.Layout.{file_of}
-use Rattle.vm_cli.specs.Machine.{boot, one_page}
-use Rattle.vm_cli.specs.Words.{IsFirstSave}
-use Rattle.vm_cli.specs.declared.image.ImageRefusal.{ImageRefusal}
-use Rattle.vm_cli.specs.declared.image.ImageRefusal.TheVariants.{NotYet, TooLong}
-use Rattle.vm_cli.specs.declared.image.TheConstants.{MOST_IMAGE, ELF_MAGIC}
+use Rattle.flat_machine.specs.Machine.{boot}
+use Rattle.vm_cli.specs.FirstSave.{one_page}
+use Rattle.vm_cli.specs.Words.{IsFirstSave, line_fault}
+use Rattle.vm_cli.specs.declared.answer.Fault.{Fault}
+use Rattle.vm_cli.specs.declared.answer.Fault.TheVariants as faults
+use Rattle.image_file.specs.declared.image_refusal.ImageRefusal.{ImageRefusal}
 use Rattle.vm_cli.specs.declared.save.SaveFault.{SaveFault}
 use Rattle.vm_cli.specs.declared.save.SaveFault.TheVariants.{FileFault, NotEmpty, NoMemory}
 
@@ -26,7 +23,20 @@ pub save_caused : (given : Given) (e : SaveFault) → IsFirstSave given.words �
     → HasItsCause given (Some (fault_of_save e))
 save_caused given FileFault line image fault not_empty = (line, image, fault refl)
 save_caused given (NotEmpty len) line image fault not_empty = let bytes = not_empty len refl in (line, image, bytes.0, bytes.1)
-save_caused given NoMemory line image fault not_empty = line
+save_caused given NoMemory line image fault not_empty = tt
+
+-- a fault of the words has its cause, and is the one that they call for
+pub line_caused : (given : Given) (f : Fault) → IsFaultOfLine given.words f → HasItsCause given (Some f)
+line_caused given (faults.Usage index kind) is = is
+line_caused given faults.NotYet is = is
+line_caused given faults.NoMemory is = tt
+line_caused given _ is = absurd is
+
+pub line_ends : (words : List (List ℕ)) (f fault : Fault) → IsFaultOfLine words f → line_fault words ≡ Some fault → EndsEarly fault (Some f)
+line_ends words (faults.Usage index kind) fault is wrong = inl (sym is ∙ wrong)
+line_ends words faults.NotYet fault is wrong = inl (sym is ∙ wrong)
+line_ends words faults.NoMemory fault is wrong = inr refl
+line_ends words _ fault is wrong = absurd is
 
 full : (image before : List ℕ) (len : ℕ) → 0 < len → len ≡ length before → called_for (Ok image) before ≡ Some (fault_of_save (NotEmpty len))
 full image [] len some is = absurd (omega (arith, some, is))
@@ -45,33 +55,6 @@ pub save_unwritten : (e : SaveFault) (P : Type 0) → ((len : ℕ) → e ≡ Not
 save_unwritten FileFault P holds is = absurd is
 save_unwritten (NotEmpty len) P holds is = holds len refl
 save_unwritten NoMemory P holds is = absurd is
-
--- a refusal that did not come
-not_refused : {X : Type 0} (test : Bool) (refusal : ImageRefusal) (rest : Result X ImageRefusal) (x : X) → cond test (Err refusal) rest ≡ Ok x → (test ≡ false) × (rest ≡ Ok x)
-not_refused true refusal rest x is = absurd cc
-not_refused false refusal rest x is = (refl, is)
-
-abbrev done : List ℕ → Result (List ℕ) ImageRefusal
-done bytes = Ok bytes
-
-taken : (bytes image : List ℕ) → done bytes ≡ done image → bytes ≡ image
-taken bytes image is = cc
-
-flat_whole : (bytes image : List ℕ) (shape : ShapeData) → flat_of bytes shape ≡ Ok image → bytes ≡ image
-flat_whole [] image shape is = absurd cc
-flat_whole (b ∷ bytes) image shape is =
-    let long = cond (nat_lt (ram_bytes_of shape) (length (b ∷ bytes))) (Err (TooLong (length (b ∷ bytes)))) (done (b ∷ bytes)) in
-    let not_elf = not_refused (starts_with nat_eq (b ∷ bytes) ELF_MAGIC) NotYet long image is in
-    let not_long = not_refused (nat_lt (ram_bytes_of shape) (length (b ∷ bytes))) (TooLong (length (b ∷ bytes))) (done (b ∷ bytes)) image not_elf.1 in
-    taken (b ∷ bytes) image not_long.1
-
--- an accepted image is all bytes of the source
-pub image_whole : (bytes image : List ℕ) (shape : ShapeData) → image_of bytes shape ≡ Ok image → bytes ≡ image
-image_whole bytes image shape is = flat_whole bytes image shape (not_refused (nat_lt MOST_IMAGE (length bytes)) (TooLong (MOST_IMAGE + 1)) (flat_of bytes shape) image is).1
-
-pub behind_all : (n : ℕ) (bytes : List ℕ) → length bytes ≤ n → behind n bytes ≡ []
-unfolding behind
-behind_all n bytes le = drop_all n bytes le
 
 pub file_saved : (output new : Option (List ℕ)) (read : Result (List ℕ) ImageRefusal) (image bytes : List ℕ) → read ≡ Ok image → bytes ≡ image
     → IfSome output (λ before. (before ≡ []) × (new ≡ Some (file_of (boot one_page bytes []))))

@@ -6,7 +6,9 @@ use Rattle.std.proofs.lemmas.List.{ext_get_or, take_all, length-replicate}
 use Rattle.std.proofs.lemmas.List.FromFn.{length-map-range_with_len, get_or-map-range_with_len}
 use Rattle.file_plan.specs.Plan.{record_place, page_place, tail_place}
 use Rattle.ram_block.specs.Shape.{ShapeData}
-use Rattle.vm_cli.specs.Machine.{Machine, boot, one_page, page_of}
+use Rattle.flat_machine.specs.Machine.{MachineData, boot, page_of}
+use Rattle.flat_machine.specs.Page.{page_at as machine_page}
+use Rattle.vm_cli.specs.FirstSave.{one_page}
 use Rattle.vm_cli.specs.DeviceText.{Two, cpu_section, serial_section, timer_section, device_text}
 use Rattle.vm_cli.specs.Layout.{Piece, front_text, record_text, tail_text, bitmap_of, block_ram, byte_in, pieces_of, pieces_from, last_piece, file_of}
 use Rattle.vm_cli.specs.FirstSave.{laid, first_head, first_bitmap}
@@ -38,7 +40,7 @@ only_bit false = refl
 
 -- the machine of the first save, and the pieces of its file
 module _ (image page : List ℕ) (fits : length image ≤ 4096) (is : page ≡ image ++ replicate (4096 - length image) 0) where
-  abbrev machine : Machine
+  abbrev machine : MachineData
   machine = boot one_page image []
 
   length-bitmap : length (bitmap_of machine 0) ≡ 8
@@ -49,7 +51,7 @@ module _ (image page : List ℕ) (fits : length image ≤ 4096) (is : page ≡ i
   length-page = omega (arith, ap length is, length-append image (replicate (4096 - length image) 0), length-replicate {A = ℕ} (4096 - length image) 0)
 
   page_is : page_of machine 0 ≡ page
-  unfolding boot
+  unfolding boot machine_page
   page_is = take_all 4096 (image ++ replicate (4096 - length image) 0) (omega (arith, ap length is, length-page)) ∙ sym is
 
   -- the page's bit is set exactly where it isn't all zeros

@@ -1,5 +1,3 @@
-pub mod Begins
-pub mod Reading
 pub mod Told
 pub mod Pieces
 pub mod FirstFile

@@ -4,7 +4,11 @@ use Rattle.std.specs.List.{flat_map}
 use Rattle.ram_block.specs.Cause.{code_of}
 use Rattle.mig_stream.specs.Text.{be32, be64, start_text, footer_text}
 use Rattle.mig_stream.specs.declared.put.TheConstants.{FULL, EOF}
-use Rattle.vm_cli.specs.Machine.{State, Running, Halted, VcpuData, SerialData, Machine}
+use Rattle.rv64i_step.specs.Vcpu.{VcpuData}
+use Rattle.rv64i_step.specs.declared.state.State.{State}
+use Rattle.rv64i_step.specs.declared.state.State.TheVariants.{Running, Halted}
+use Rattle.serial_timer.specs.Serial.{SerialData}
+use Rattle.flat_machine.specs.Machine.{MachineData}
 
 -- the version of a serial section: the first has no input
 pub data SerialVersion : Type 0 where
@@ -53,7 +57,7 @@ timer_section vcpus clock cmp =
     start_text FULL (4 + vcpus) (codes "timer") 0 1 ++ (be64 clock ++ (be64 cmp ++ footer_text (4 + vcpus)))
 
 -- all sections, and the end of the stream
-unfoldable pub device_text : SerialVersion → Machine → List ℕ
+unfoldable pub device_text : SerialVersion → MachineData → List ℕ
 device_text version m =
     cpu_sections 0 m.vcpus
     ++ (serial_section version (length m.vcpus) m.serial ++ (timer_section (length m.vcpus) m.clock m.cmp ++ EOF ∷ []))

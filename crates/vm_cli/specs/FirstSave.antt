@@ -5,8 +5,16 @@ use Rattle.std.specs.List.{list_all}
 use Rattle.medium.specs.Bytes.{written}
 use Rattle.file_plan.specs.Plan.{page_place, tail_place}
 use Rattle.ram_block.specs.Shape.{ShapeData}
-use Rattle.vm_cli.specs.Machine.{one_page}
+use Rattle.serial_timer.specs.Serial.{SerialData}
 use Rattle.vm_cli.specs.Layout.{front_text, record_text}
+
+-- the shape of the first save: one vCPU, one block, one page
+abbrev pub one_page : ShapeData
+one_page = record { vcpus = 1; blocks = 1; pages = 1 }
+
+-- a serial device that holds nothing
+abbrev pub no_serial : SerialData
+no_serial = record { bytes = []; lost = 0; input = [] }
 
 -- the file with the page at its place, where it isn't all zeros
 abbrev pub with_page : ℕ → List ℕ → List ℕ → List ℕ

@@ -11,7 +11,7 @@ use Rattle.mig_stream.specs.declared.put.TheConstants.{START, END}
 use Rattle.mapped_ram_header.specs.Header.{header_bytes}
 use Rattle.mapped_ram_header.specs.Places.{bitmap_len}
 use Rattle.file_plan.specs.Plan.{record_place, block_places, tail_place}
-use Rattle.vm_cli.specs.Machine.{Machine, Rest, page_of}
+use Rattle.flat_machine.specs.Machine.{MachineData, Rest, page_of}
 use Rattle.vm_cli.specs.DeviceText.{SerialVersion, One, Two, device_text}
 
 -- the front of a file: magic, version, configuration, and the first header of the RAM section with its total
@@ -38,25 +38,25 @@ abbrev pub page_bit : List ℕ → ℕ → ℕ → ℕ
 page_bit file bitmap p = bit_at (slice_index file (bitmap + p / 8)) (p % 8)
 
 -- page p of a block: it stands at its place, where its bit is set, and else is all zeros
-pub record LaysPage (file : List ℕ) (m : Machine) (block p : ℕ) : Type 0 where
+pub record LaysPage (file : List ℕ) (m : MachineData) (block p : ℕ) : Type 0 where
   pub stands : page_bit file (block_places m.shape.pages block).bitmap p ≡ 1 →
       StandsAt file ((block_places m.shape.pages block).pages + PAGE * p) (page_of m (block * m.shape.pages + p))
   pub zeros : page_bit file (block_places m.shape.pages block).bitmap p ≡ 0 →
       page_of m (block * m.shape.pages + p) ≡ zero_page
 
 -- a block: its record and each of its pages
-pub record LaysBlock (file : List ℕ) (m : Machine) (block : ℕ) : Type 0 where
+pub record LaysBlock (file : List ℕ) (m : MachineData) (block : ℕ) : Type 0 where
   pub record_stands : StandsAt file (record_place m.shape.pages block) (record_text m.shape block)
   pub pages : (p : ℕ) → p < m.shape.pages → LaysPage file m block p
 
 -- a serial section of the first version has no input
-abbrev pub HasVersion : SerialVersion → Machine → Type 0
+abbrev pub HasVersion : SerialVersion → MachineData → Type 0
 HasVersion One m = m.serial.input ≡ []
 HasVersion Two m = Unit {0}
 
 -- The file is a layout of the machine. What is not spoken of is free: bytes between a bitmap and the pages,
 -- bits past the last page, and pages whose bit is clear.
-pub record Lay (file : List ℕ) (m : Machine) : Type 0 where
+pub record Lay (file : List ℕ) (m : MachineData) : Type 0 where
   pub rest : Rest m
   pub front : StandsAt file 0 (front_text m.shape)
   pub blocks : (block : ℕ) → block < m.shape.blocks → LaysBlock file m block
@@ -74,39 +74,39 @@ byte_in (piece ∷ pieces) k =
     if nat_le piece.at k && nat_lt k (piece.at + length piece.bytes) then slice_index piece.bytes (k - piece.at) else byte_in pieces k
 
 -- 1 for a page of the block that isn't all zeros, else 0
-abbrev pub saved_bit : Machine → ℕ → ℕ → ℕ
+abbrev pub saved_bit : MachineData → ℕ → ℕ → ℕ
 saved_bit m block p =
     if nat_lt p m.shape.pages then (if list_all (λ b. b == 0) (page_of m (block * m.shape.pages + p)) then 0 else 1) else 0
 
 -- a bitmap: page p is bit p mod 8 of byte p / 8
-unfoldable pub bitmap_of : Machine → ℕ → List ℕ
+unfoldable pub bitmap_of : MachineData → ℕ → List ℕ
 bitmap_of m block =
     map (λ i. sum_by (λ b. saved_bit m block (8 * i + b) * 2 ^ b) (range_with_len 0 8)) (range_with_len 0 (bitmap_len m.shape.pages))
 
 -- the RAM of a block
-abbrev pub block_ram : Machine → ℕ → List ℕ
+abbrev pub block_ram : MachineData → ℕ → List ℕ
 block_ram m block = take (PAGE * m.shape.pages) (drop (PAGE * m.shape.pages * block) m.ram)
 
 -- the pieces of a block
-abbrev pub block_pieces : Machine → ℕ → List Piece
+abbrev pub block_pieces : MachineData → ℕ → List Piece
 block_pieces m block =
     let places = block_places m.shape.pages block in
     record { at = record_place m.shape.pages block; bytes = record_text m.shape block }
     ∷ (record { at = places.bitmap; bytes = bitmap_of m block } ∷ (record { at = places.pages; bytes = block_ram m block } ∷ []))
 
 -- the pieces of so many blocks from this one on
-unfoldable pub pieces_from : Machine → ℕ → ℕ → List Piece
+unfoldable pub pieces_from : MachineData → ℕ → ℕ → List Piece
 pieces_from m block zero = []
 pieces_from m block (suc n) = block_pieces m block ++ pieces_from m (block + 1) n
 
 -- the last piece, with the serial section of the second version
-abbrev pub last_piece : Machine → Piece
+abbrev pub last_piece : MachineData → Piece
 last_piece m = record { at = tail_place m.shape; bytes = tail_text ++ device_text Two m }
 
 -- all pieces of the file
-unfoldable pub pieces_of : Machine → List Piece
+unfoldable pub pieces_of : MachineData → List Piece
 pieces_of m = record { at = 0; bytes = front_text m.shape } ∷ (pieces_from m 0 m.shape.blocks ++ last_piece m ∷ [])
 
 -- the file that a save writes: each piece at its place, and zeros elsewhere
-unfoldable pub file_of : Machine → List ℕ
+unfoldable pub file_of : MachineData → List ℕ
 file_of m = map (byte_in (pieces_of m)) (range_with_len 0 (tail_place m.shape + length (last_piece m).bytes))

@@ -1,42 +1,42 @@
--- The words of the first save (this project's own, docs/COMMAND_LINE.md).
-use Rattle.std.specs.Prelude.{◌≡◌, ◌<◌, List, [], ◌∷◌, ℕ, length, take, drop, slice_index_or, codes, nat_eq, Option, Some, None, if◌then◌else◌}
-use Rattle.std.specs.List.{starts_with}
-use Rattle.std.specs.Option.{option_or}
+-- Which lines are served, and the fault of every other (this project's own, docs/COMMAND_LINE.md).
+use Rattle.std.specs.Prelude.{◌≡◌, ℕ, Bool, true, false, ◌&&◌, ◌==◌, List, [], ◌∷◌, Option, Some, None, Result, Ok, Err, if◌then◌else◌}
+use Rattle.ram_block.specs.Shape.{ShapeData}
+use Rattle.vm_words.specs.Job.{job}
+use Rattle.vm_words.specs.declared.fault.UsageKind.{UsageKind}
+use Rattle.vm_words.specs.declared.job.Job.{Job}
+use Rattle.vm_words.specs.declared.job.Job.TheVariants as jobs
+use Rattle.vm_words.specs.declared.job.Mode.{Mode}
+use Rattle.vm_words.specs.declared.job.Mode.TheVariants.{Sliced, Threads}
+use Rattle.vm_cli.specs.declared.answer.Fault.{Fault}
+use Rattle.vm_cli.specs.declared.answer.Fault.TheVariants.{Usage, NotYet}
 
--- the word is this key, and then a value that isn't empty
-pub record HasValue (word key : List ℕ) : Type 0 where
-  pub begins : take (length key) word ≡ key
-  pub longer : length key < length word
+-- the smallest shape
+abbrev pub is_one_page : ShapeData → Bool
+is_one_page s = s.vcpus == 1 && s.blocks == 1 && s.pages == 1
 
--- word i of a line, counted from 0
-abbrev pub word : List (List ℕ) → ℕ → List ℕ
-word words i = slice_index_or words i []
+abbrev pub is_sliced : Mode → Bool
+is_sliced Sliced = true
+is_sliced Threads = false
 
--- one vCPU, one block, one page, and no instruction before the stop or after it
-pub record IsSmallest (words : List (List ℕ)) : Type 0 where
-  pub vcpus : word words 3 ≡ codes "vcpus=1"
-  pub blocks : word words 4 ≡ codes "blocks=1"
-  pub pages : word words 5 ≡ codes "pages=1"
-  pub stop : word words 6 ≡ codes "stop=0"
-  pub run : word words 7 ≡ codes "run=0"
+abbrev pub is_empty : List ℕ → Bool
+is_empty [] = true
+is_empty (b ∷ bytes) = false
 
--- a save of an image into a file
-pub record NamesFiles (words : List (List ℕ)) : Type 0 where
-  pub command : word words 0 ≡ codes "save"
-  pub image : HasValue (word words 1) (codes "image=")
-  pub out : HasValue (word words 2) (codes "out=")
+-- the first save: the smallest machine, with no input, saved as it is booted
+abbrev pub is_served : Job → Bool
+is_served (jobs.Save shape stop run mode turns input relay) =
+    is_one_page shape && stop == 0 && run == 0 && is_sliced mode && is_empty input && relay == 0
+is_served _ = false
 
--- the eight words of the first save
-pub record IsFirstSave (words : List (List ℕ)) : Type 0 where
-  pub count : length words ≡ 8
-  pub files : NamesFiles words
-  pub smallest : IsSmallest words
+-- why a line isn't served, if it isn't
+abbrev pub fault_of_line : Result Job (ℕ × UsageKind) → Option Fault
+fault_of_line (Err wrong) = Some (Usage wrong.0 wrong.1)
+fault_of_line (Ok job) = if is_served job then None else Some NotYet
 
--- what follows the key, where the word begins with it
-abbrev pub value_after : List ℕ → List ℕ → Option (List ℕ)
-value_after word key = if starts_with nat_eq word key then Some (drop (length key) word) else None
+-- the same, of words
+unfoldable pub line_fault : List (List ℕ) → Option Fault
+line_fault words = fault_of_line (job words)
 
--- what follows the key in the first word that begins with it
-abbrev pub value_in : List (List ℕ) → List ℕ → Option (List ℕ)
-value_in [] key = None
-value_in (word ∷ words) key = option_or (value_after word key) (value_in words key)
+-- the words are the line of the first save
+abbrev pub IsFirstSave : List (List ℕ) → Type 0
+IsFirstSave words = line_fault words ≡ None

@@ -1,15 +1,18 @@
 ghost use Rattle.std.specs.Prelude.{◌≡◌};
-ghost use Rattle.vm_cli.specs.Answer.{fault_status, status_of, fault_of_image, fault_of_save};
+ghost use Rattle.vm_cli.specs.Answer.{fault_status, status_of, fault_of_image, fault_of_save, fault_of_words};
 
-use crate::image::ImageFault;
 use crate::save::SaveFault;
-use crate::{ImageRefusal, Order, UsageKind};
+use flat_machine::Order;
+use image_file::{ImageFault, ImageRefusal};
+use vm_words::{UsageKind, WordsFault};
 
 /// Why a job ended before its end.
 #[derive(Clone, Copy, Debug, PartialEq, Eq)]
 pub enum Fault {
     /// The words are no line: the first that fails, counted from 0, and how.
     Usage { index: u32, kind: UsageKind },
+    /// The words are a line that isn't served yet.
+    NotYet,
     ImageRefused(ImageRefusal),
     /// A call on a file failed.
     FileFault,
@@ -26,12 +29,23 @@ impl Fault {
         ensures { result ≡ fault_status self }
     {
         match self {
-            Fault::Usage { .. } => 1,
+            Fault::Usage { .. } | Fault::NotYet => 1,
             Fault::ImageRefused(_) => 2,
             Fault::FileFault => 4,
             Fault::ImageFault => 6,
             Fault::NoMemory => 7,
             Fault::NotEmpty { .. } => 8,
+        }
+    }
+}
+
+impl From<WordsFault> for Fault {
+    ghost from_gives = { λ e f. f ≡ fault_of_words e };
+
+    fn from(fault: WordsFault) -> Self {
+        match fault {
+            WordsFault::Usage { index, kind } => Fault::Usage { index, kind },
+            WordsFault::NoMemory => Fault::NoMemory,
         }
     }
 }

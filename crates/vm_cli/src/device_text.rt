@@ -1,7 +1,9 @@
 ghost use Rattle.std.specs.Prelude.{◌≡◌, ◌<◌, ◌≤◌, [], ◌++◌, OnOk};
 ghost use Rattle.std.specs.List.{flat_map};
 ghost use Rattle.mig_stream.specs.Text.{be64};
-ghost use Rattle.vm_cli.specs.Machine.{boot, boot_vcpu, one_page, no_serial};
+ghost use Rattle.flat_machine.specs.Machine.{boot};
+ghost use Rattle.rv64i_step.specs.Vcpu.{boot_vcpu};
+ghost use Rattle.vm_cli.specs.FirstSave.{one_page, no_serial};
 ghost use Rattle.vm_cli.specs.DeviceText.{Two, cpu_section, serial_section, timer_section, device_text};
 
 use mig_stream::{EOF, FULL, put_be32, put_be64, put_footer, put_start};
@@ -21,7 +23,7 @@ const RUNNING: u8 = 0;
 const FIRST_DEVICE: u32 = 3;
 
 /// Appends the device text of a machine with one vCPU at boot, without input.
-#[tactic(auto, unfolding(crate::specs::DeviceText::device_text, crate::specs::Machine::boot))]
+#[tactic(auto, unfolding(crate::specs::DeviceText::device_text, flat_machine::specs::Machine::boot))]
 pub(crate) fn put_boot_devices(out: &mut Vec<u8>) -> Result<(), NoMemory>
     ensures { OnOk result (out.new.items ≡ out.old.items ++ device_text Two (boot one_page [] [])) }
 {

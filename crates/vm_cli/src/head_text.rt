@@ -1,7 +1,7 @@
 ghost use Rattle.std.specs.Prelude.{◌≡◌, ◌==◌, ◌++◌, if◌then◌else◌, OnOk};
 ghost use Rattle.std.specs.List.{list_all};
 ghost use Rattle.ram_block.specs.Shape.{ram_bytes_of};
-ghost use Rattle.vm_cli.specs.Machine.{one_page};
+ghost use Rattle.vm_cli.specs.FirstSave.{one_page};
 ghost use Rattle.vm_cli.specs.Layout.{front_text, record_text, tail_text};
 ghost use Rattle.vm_cli.specs.FirstSave.{first_head};
 

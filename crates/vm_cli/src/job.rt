@@ -1,22 +1,23 @@
 ghost use Rattle.std.specs.Prelude.{◌≡◌, List, ℕ, Some, map, string_bytes, IsOk, OnOk, IfSome};
 ghost use Rattle.medium.specs.Crash.{Only};
-ghost use Rattle.vm_cli.specs.Answer.{fault_in, called_for, Given, HasItsCause, EndsWith, IsSaved, IsUsage, IsBeforeOutput, IsNotEmpty};
-ghost use Rattle.vm_cli.specs.Image.{image_of};
-ghost use Rattle.vm_cli.specs.Machine.{one_page};
-ghost use Rattle.vm_cli.specs.Words.{IsFirstSave};
+ghost use Rattle.vm_cli.specs.Answer.{EndsEarly, fault_in, called_for, Given, HasItsCause, EndsWith, IsSaved, IsUsage, IsBeforeOutput, IsNotEmpty};
+ghost use Rattle.image_file.specs.Image.{image_of};
+ghost use Rattle.vm_cli.specs.FirstSave.{one_page};
+ghost use Rattle.vm_cli.specs.Words.{IsFirstSave, line_fault};
+ghost use Rattle.vm_cli.specs.declared.answer.Fault.{Fault};
 ghost use Rattle.vm_cli.specs.declared.answer.Fault.TheVariants as faults;
-ghost use Rattle.vm_cli.specs.declared.image.ImageRefusal.{ImageRefusal};
-ghost use Rattle.vm_cli.specs.declared.words.UsageKind.TheVariants.{NotYet};
+ghost use Rattle.image_file.specs.declared.image_refusal.ImageRefusal.{ImageRefusal};
 
-use crate::image::read_image;
+use crate::Fault;
 use crate::save::save_boot;
-use crate::words::is_first_save;
-use crate::{Fault, UsageKind};
+use crate::words::serve_line;
+use image_file::read_image;
 use medium::{Medium, Source};
 use ram_block::Shape;
 use std::alloc::Global;
 
 /// The job of a line of words: the first save, in the order of its work.
+#[tactic(auto, using(crate::proofs::Causes::line_caused, crate::proofs::Causes::line_ends))]
 pub(crate) fn run_job<S: Source, M: Medium>(
     alloc: Global,
     words: &[String],
@@ -35,7 +36,7 @@ pub(crate) fn run_job<S: Source, M: Medium>(
       output_before = M.faults output.old;
       output_after = M.faults output.new;
     }) (fault_in result) }
-    ensures usage { (IsFirstSave (map string_bytes words.now) → ⊥) → result ≡ Err (faults.Usage 0 NotYet) }
+    ensures usage { (fault : Fault) → line_fault (map string_bytes words.now) ≡ Some fault → EndsEarly fault (fault_in result) }
     ensures refused { (bytes : List ℕ) (refusal : ImageRefusal) → IsFirstSave (map string_bytes words.now) → S.left image.old ≡ Some bytes → image_of bytes one_page ≡ Err refusal
         → EndsWith (Some (faults.ImageRefused refusal)) (fault_in result) }
     ensures ends { (bytes before : List ℕ) → IsFirstSave (map string_bytes words.now) → S.left image.old ≡ Some bytes → M.told output.old ≡ Some before
@@ -45,12 +46,7 @@ pub(crate) fn run_job<S: Source, M: Medium>(
     ensures untouched { IsBeforeOutput (fault_in result) → output.new ≡ output.old }
     ensures unwritten { IsNotEmpty (fault_in result) → (M.told output.new ≡ M.told output.old) × (M.syncs output.new ≡ M.syncs output.old) }
 {
-    if !is_first_save(words) {
-        return Err(Fault::Usage {
-            index: 0,
-            kind: UsageKind::NotYet,
-        });
-    }
+    serve_line(alloc, words)?;
     let Ok(shape) = Shape::new(1, 1, 1) else {
         unreachable!()
     };

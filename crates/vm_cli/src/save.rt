@@ -2,8 +2,8 @@ ghost use Rattle.std.specs.Prelude.{◌≡◌, ◌<◌, ◌≤◌, ◌+◌, ◌-
 ghost use Rattle.std.specs.List.{list_all};
 ghost use Rattle.medium.specs.Count.{HasRisen};
 ghost use Rattle.medium.specs.Crash.{Only};
-ghost use Rattle.vm_cli.specs.FirstSave.{laid, with_page};
-ghost use Rattle.vm_cli.specs.Machine.{boot, one_page};
+ghost use Rattle.flat_machine.specs.Machine.{boot};
+ghost use Rattle.vm_cli.specs.FirstSave.{laid, one_page, with_page};
 ghost use Rattle.vm_cli.specs.Layout.{file_of};
 ghost use Rattle.vm_cli.specs.declared.save.SaveFault.TheVariants.{FileFault as file_fault, NotEmpty as not_empty, NoMemory as out_of_memory};
 

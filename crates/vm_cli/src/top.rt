@@ -1,16 +1,17 @@
 ghost use Rattle.std.specs.Prelude.{◌≡◌, ◌⊎◌, List, ℕ, [], Some, None, map, string_bytes, IfSome};
 ghost use Rattle.medium.specs.Count.{HasRisen};
 ghost use Rattle.medium.specs.Crash.{Only};
-ghost use Rattle.vm_cli.specs.Answer.{status_of, called_for, Given, HasItsCause, EndsWith, IsSaved, IsUsage, IsBeforeOutput, IsNotEmpty};
-ghost use Rattle.vm_cli.specs.Image.{image_of};
-ghost use Rattle.vm_cli.specs.Machine.{one_page};
-ghost use Rattle.vm_cli.specs.Words.{IsFirstSave};
+ghost use Rattle.vm_cli.specs.Answer.{EndsEarly, status_of, called_for, Given, HasItsCause, EndsWith, IsSaved, IsUsage, IsBeforeOutput, IsNotEmpty};
+ghost use Rattle.image_file.specs.Image.{image_of};
+ghost use Rattle.vm_cli.specs.FirstSave.{one_page};
+ghost use Rattle.vm_cli.specs.Words.{IsFirstSave, line_fault};
+ghost use Rattle.vm_cli.specs.declared.answer.Fault.{Fault};
 ghost use Rattle.vm_cli.specs.declared.answer.Fault.TheVariants as faults;
-ghost use Rattle.vm_cli.specs.declared.image.ImageRefusal.{ImageRefusal};
-ghost use Rattle.vm_cli.specs.declared.words.UsageKind.TheVariants.{NotYet};
+ghost use Rattle.image_file.specs.declared.image_refusal.ImageRefusal.{ImageRefusal};
 
+use crate::Answer;
 use crate::job::run_job;
-use crate::{Answer, Order};
+use flat_machine::Order;
 use medium::{Medium, Sink, Source};
 use ram_block::Gate;
 use std::alloc::Global;
@@ -48,7 +49,7 @@ pub fn rvsnap_still<S: Source, M: Medium, K: Sink>(
       output_before = M.faults output.old;
       output_after = M.faults output.new;
     }) result.fault }
-    ensures usage { (IsFirstSave (map string_bytes words.now) → ⊥) → result.fault ≡ Some (faults.Usage 0 NotYet) }
+    ensures usage { (fault : Fault) → line_fault (map string_bytes words.now) ≡ Some fault → EndsEarly fault result.fault }
     ensures refused { (bytes : List ℕ) (refusal : ImageRefusal) → IsFirstSave (map string_bytes words.now) → S.left image.old ≡ Some bytes → image_of bytes one_page ≡ Err refusal
         → EndsWith (Some (faults.ImageRefused refusal)) result.fault }
     ensures ends { (bytes before : List ℕ) → IsFirstSave (map string_bytes words.now) → S.left image.old ≡ Some bytes → M.told output.old ≡ Some before
@@ -111,7 +112,7 @@ pub fn rvsnap<R: Threads + Wait + Sync, S: Source, M: Medium + Send, K: Sink, G:
       output_before = M.faults output.old;
       output_after = M.faults output.new;
     }) result.fault }
-    ensures usage { (IsFirstSave (map string_bytes words.now) → ⊥) → result.fault ≡ Some (faults.Usage 0 NotYet) }
+    ensures usage { (fault : Fault) → line_fault (map string_bytes words.now) ≡ Some fault → EndsEarly fault result.fault }
     ensures refused { (bytes : List ℕ) (refusal : ImageRefusal) → IsFirstSave (map string_bytes words.now) → S.left image.old ≡ Some bytes → image_of bytes one_page ≡ Err refusal
         → EndsWith (Some (faults.ImageRefused refusal)) result.fault }
     ensures ends { (bytes before : List ℕ) → IsFirstSave (map string_bytes words.now) → S.left image.old ≡ Some bytes → M.told output.old ≡ Some before

@@ -1,10 +1,12 @@
 ghost use Rattle.std.specs.Prelude.{◌≤◌, length, IfOk};
 
+use image_file::{ElfKind, ImageRefusal};
 use medium::{FailPlan, MemMedium, MemSink, MemSource};
 use ram_block::{NoGate, NoMemory};
 use std::alloc::{AllocError, Global};
 use std::test::Fail;
-use vm_cli::{Answer, Fault, ImageRefusal, UsageKind, rvsnap, rvsnap_still};
+use vm_cli::{Answer, Fault, rvsnap, rvsnap_still};
+use vm_words::UsageKind;
 
 /// The line of the first save.
 const LINE: [&str; 8] = [
@@ -214,16 +216,40 @@ fn an_image_fits_up_to_the_last_byte_of_the_page(rt: HostRuntime) -> Result<(), 
     Ok(())
 }
 
+/// An ELF file of 128 bytes: one segment, whose bytes are the guest's and whose memory is at the place given.
+fn elf_of_the_guest(place: u64) -> [u8; 128] {
+    let mut elf = [0; 128];
+    elf[..6].copy_from_slice(&[0x7f, 0x45, 0x4c, 0x46, 2, 1]);
+    elf[18] = 243;
+    elf[32] = 64;
+    elf[54] = 56;
+    elf[56] = 1;
+    elf[64] = 1;
+    elf[72] = 120;
+    elf[88..96].copy_from_slice(&place.to_le_bytes());
+    elf[96] = 8;
+    elf[104] = 16;
+    elf[120..].copy_from_slice(&GUEST);
+    elf
+}
+
 #[test]
-fn an_elf_image_is_not_read_yet(rt: HostRuntime) -> Result<(), Fail> {
+fn an_elf_file_of_the_guest_saves_the_same_file(rt: HostRuntime) -> Result<(), Fail> {
     let alloc = rt.alloc();
     let output = file(alloc, &[], well(alloc))?;
-    let elf = [0x7f, 0x45, 0x4c, 0x46];
+    let elf = elf_of_the_guest(0x8000_0000);
     let done = serve(alloc, &LINE, image(alloc, &elf)?, output)?;
-    assert_eq!(rt;
-        done.answer.fault,
-        Some(Fault::ImageRefused(ImageRefusal::NotYet))
-    );
+    assert_eq!(rt; done.answer.status, 0);
+    assert!(rt; done.output.bytes() == guest_file(alloc)?.as_slice());
+
+    let output = file(alloc, &[], well(alloc))?;
+    let outside = elf_of_the_guest(0x8000_1000);
+    let done = serve(alloc, &LINE, image(alloc, &outside)?, output)?;
+    let refusal = ImageRefusal::Elf {
+        kind: ElfKind::Place,
+        at: 88,
+    };
+    assert_eq!(rt; done.answer.fault, Some(Fault::ImageRefused(refusal)));
     assert_eq!(rt; done.answer.status, 2);
     Ok(())
 }
@@ -271,39 +297,41 @@ fn each_read_of_the_image_may_fail(rt: HostRuntime) -> Result<(), Fail> {
     Ok(())
 }
 
+/// A line that isn't served, and its fault.
+#[rattlefmt::skip]
+static OTHER_LINES: [(&[&str], Fault); 7] = [
+    (&[], Fault::Usage { index: 0, kind: UsageKind::NoCommand }),
+    (&["save"], Fault::Usage { index: 1, kind: UsageKind::Missing }),
+    (&["stave", "image=a", "out=b"], Fault::Usage { index: 0, kind: UsageKind::Command }),
+    (&["save", "image=", "out=b", "pages=1"], Fault::Usage { index: 1, kind: UsageKind::Value }),
+    (&["save", "image=a", "out=b", "pages=1", "pages=1"], Fault::Usage { index: 4, kind: UsageKind::Twice }),
+    (&["save", "image=a", "out=b", "pages=2"], Fault::NotYet),
+    (&["check", "in=a"], Fault::NotYet),
+];
+
 #[test]
-fn every_other_line_is_a_faulty_command_line(rt: HostRuntime) -> Result<(), Fail> {
+fn every_other_line_is_answered_before_the_image(rt: HostRuntime) -> Result<(), Fail> {
     let alloc = rt.alloc();
-    let usage = Some(Fault::Usage {
-        index: 0,
-        kind: UsageKind::NotYet,
-    });
-    let lines: [&[&str]; 6] = [
-        &[],
-        &["save"],
-        &[
-            "stave", "image=a", "out=b", "vcpus=1", "blocks=1", "pages=1", "stop=0", "run=0",
-        ],
-        &[
-            "save", "image=", "out=b", "vcpus=1", "blocks=1", "pages=1", "stop=0", "run=0",
-        ],
-        &[
-            "save", "image=a", "out=b", "vcpus=1", "blocks=1", "pages=2", "stop=0", "run=0",
-        ],
-        &[
-            "save", "image=a", "out=b", "vcpus=1", "blocks=1", "pages=1", "stop=0", "run=0",
-            "run=0",
-        ],
-    ];
-    for line in lines {
+    for &(line, fault) in &OTHER_LINES {
         let plan = FailPlan {
             calls: Vec::new(alloc),
             from: Some(1),
         };
         let output = file(alloc, &[], plan)?;
         let done = serve(alloc, line, image(alloc, &GUEST)?, output)?;
-        assert_eq!(rt; done.answer.fault, usage);
+        assert_eq!(rt; done.answer.fault, Some(fault));
         assert_eq!(rt; done.answer.status, 1);
     }
+    Ok(())
+}
+
+#[test]
+fn the_words_may_stand_in_any_order_and_have_defaults(rt: HostRuntime) -> Result<(), Fail> {
+    let alloc = rt.alloc();
+    let line = ["save", "pages=0001", "out=b", "mode=sliced", "image=a"];
+    let output = file(alloc, &[], well(alloc))?;
+    let done = serve(alloc, &line, image(alloc, &GUEST)?, output)?;
+    assert_eq!(rt; done.answer.status, 0);
+    assert!(rt; done.output.bytes() == guest_file(alloc)?.as_slice());
     Ok(())
 }

@@ -1,7 +1,8 @@
 -- The texts are those of the machine at boot, so what the writes leave is its file.
 use Rattle.std.proofs.Common.{◌≡◌, ℕ, List, [], ◌++◌, length, Some, ap, subst, ◌∙◌, arith}
 use Rattle.std.specs.Prelude.{OnOk, IfSome}
-use Rattle.vm_cli.specs.Machine.{boot, one_page}
+use Rattle.flat_machine.specs.Machine.{boot}
+use Rattle.vm_cli.specs.FirstSave.{one_page}
 use Rattle.vm_cli.specs.Layout.{tail_text}
 use Rattle.vm_cli.specs.DeviceText.{Two, device_text}
 use Rattle.vm_cli.specs.FirstSave.{first_head}

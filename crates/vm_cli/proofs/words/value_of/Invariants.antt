@@ -1,7 +1,0 @@
-use Rattle.std.proofs.Common.{◌≡◌, drop, map, string_bytes}
-use Rattle.vm_cli.specs.Words.{value_in}
-use Rattle.vm_cli.proofs.words.value_of.Given as goal
-
--- the words that are left give the value
-abbrev pub invariant-loop-word : goal.invariant-loop-word
-invariant-loop-word l = value_in (map string_bytes (drop l.word-index l.words)) l.key ≡ value_in (map string_bytes l.words) l.key
