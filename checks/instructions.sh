@@ -1,11 +1,11 @@
 #!/usr/bin/env bash
-# Assembles the statements of the instruction table's tests, and then those of generated instructions, with
+# Assembles the statements of the instructions' tests, and then those of generated instructions, with
 # an outside assembler, and compares its words with the table's. Skips where neither GNU as for riscv64 nor
 # llvm-mc is at hand.
 set -euo pipefail
 cd "$(dirname "$0")/.."
 
-tests=crates/rv64i_decode/src/tests.rt
+tests=(crates/rv64i_decode/src/tests.rt crates/rv64i_step/src/tests.rt)
 generator=crates/instruction_words
 program=$generator/out/instruction_words
 generated=4000
@@ -80,7 +80,7 @@ if ! has_gnu && ! has_llvm; then
     exit 0
 fi
 
-rows=$(grep -oE '\(0x[0-9a-f]{8}, "[^"]+"' "$tests")
+rows=$(grep -ohE '\(0x[0-9a-f]{8}, "[^"]+"' "${tests[@]}")
 sed -E 's/^\((0x[0-9a-f]{8}), .*/\1/' <<< "$rows" > "$work/words"
 sed -E 's/^[^"]*"([^"]+)"/\1/' <<< "$rows" > "$work/statements"
 compare_with_each "tests'"

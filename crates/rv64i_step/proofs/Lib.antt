@@ -1,2 +1,7 @@
 pub mod Accesses
+pub mod Chosen
+pub mod Jumps
 pub mod Outcomes
+pub mod Registers
+pub mod Requests
+pub mod Words

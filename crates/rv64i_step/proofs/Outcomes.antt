@@ -15,7 +15,8 @@ use Rattle.rv64i_step.specs.Arithmetic.{bits64, sum64, is_taken}
 use Rattle.rv64i_step.specs.Event.{request_of, decoded, unfetched, fetched_vcpu, made, access_made, accessed_vcpu}
 use Rattle.rv64i_step.specs.Execute.{executed, jumps, aimed, address_of, even}
 use Rattle.rv64i_step.specs.Outcome.{AccessesMemory, HaltsWith, Finishes, FetchOutcome, Halting, Awaiting, Finishing}
-use Rattle.rv64i_step.specs.Vcpu.{VcpuData, with_reg, next_pc, finished, halted, reg_of}
+use Rattle.rv64i_step.specs.Laws.{FetchesEnd}
+use Rattle.rv64i_step.specs.Vcpu.{IsPending, VcpuData, with_reg, next_pc, finished, halted, reg_of}
 use Rattle.rv64i_step.specs.declared.access.Access.{Access}
 use Rattle.rv64i_step.specs.declared.request.Request.{Request}
 use Rattle.rv64i_step.specs.declared.request.Request.TheVariants.{NoFetch}
@@ -128,3 +129,27 @@ pub access_outcome : (v : VcpuData) (value : ℕ) (access : Access) → v.pendin
 unfolding accessed_vcpu
 access_outcome v value access pending kind =
     subst (λ (p : Option Access). Finishes v (access_made v value p)) (sym pending) (made_outcome v value access.instr kind)
+
+-- what a fetch makes pending is an access of a load, a store or an AMO
+pending_kind : (v after : VcpuData) (access : Access) → FetchOutcome v after → after.pending ≡ Some access → AccessesMemory access.instr
+pending_kind v after access (Halting cause halting) pending =
+    let e : None ≡ Some access = sym halting.pending ∙ pending in cc
+pending_kind v after access (Awaiting made awaiting) pending =
+    let e : made ≡ access = cc in subst (λ (a : Access). AccessesMemory a.instr) e awaiting.kind
+pending_kind v after access (Finishing finishing) pending =
+    let e : None ≡ Some access = sym finishing.pending ∙ pending in cc
+
+pub fetch_pending_kind : (shape : ShapeData) (v : VcpuData) (word : ℕ) (access : Access) → v.pending ≡ None →
+    (fetched_vcpu shape v (Some word)).pending ≡ Some access → AccessesMemory access.instr
+fetch_pending_kind shape v word access none pending =
+    pending_kind v (fetched_vcpu shape v (Some word)) access (fetch_outcome shape v word none) pending
+
+-- so is an access that a vCPU keeps pending
+pub pending_accesses : (place : Place) (instr : Instr) → IsPending place instr → AccessesMemory instr
+pending_accesses place (Load op rd rs1 off) pending = tt
+pending_accesses place (Store op rs1 rs2 off) pending = tt
+pending_accesses place (Amo op wide rd rs1 rs2 order) pending = tt
+pending_accesses place _ pending = absurd pending
+
+pub fetches_end : FetchesEnd
+fetches_end = record { word = fetch_outcome; none = no_fetch_outcome }

@@ -15,7 +15,11 @@ mod vcpu;
 
 pub use access::Access;
 pub use amo::amo_result;
-pub use laws::{access_finishes_the_instruction, fetch_has_one_of_three_outcomes};
+pub use laws::{
+    accesses_finish, amos_choose, branches_oppose, fetches_end, instructions_write_one_register,
+    jumps_land, outcomes_differ, registers_keep, results_are_words, stores_keep_registers,
+    vcpus_ask_while_running,
+};
 pub use request::Request;
 pub use state::State;
 pub use vcpu::Vcpu;
