@@ -4,3 +4,4 @@ pub mod Padded
 pub mod Runs
 pub mod Cells
 pub mod Events
+pub mod Outcomes
