@@ -5,3 +5,4 @@ pub mod Runs
 pub mod Cells
 pub mod Events
 pub mod Outcomes
+pub mod Phases

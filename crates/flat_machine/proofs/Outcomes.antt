@@ -236,7 +236,7 @@ next_count m k after kind moved =
     ap length n.from.vcpus ∙ length-set m.vcpus k n.from.is
 
 -- nothing pending is no access of another kind
-none_awaits : (v : VcpuData) → v.pending ≡ None → AwaitsMemory v
+pub none_awaits : (v : VcpuData) → v.pending ≡ None → AwaitsMemory v
 none_awaits v none access pending = absurd (none-some access (sym none ∙ pending))
 
 -- what a fetch leaves pending is of a load, a store or an AMO
