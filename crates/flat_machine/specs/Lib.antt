@@ -1,5 +1,6 @@
 pub mod Cell
 pub mod Fits
+pub mod Laws
 pub mod Machine
 pub mod Next
 pub mod Order

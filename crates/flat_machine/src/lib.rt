@@ -6,6 +6,7 @@
 mod boot;
 mod copy;
 mod device_access;
+mod laws;
 mod machine;
 mod order;
 mod page_access;
@@ -14,6 +15,10 @@ mod step;
 mod vcpus;
 
 pub use device_access::{apply_to_serial, apply_to_timer};
+pub use laws::{
+    a_cell_holds_what_was_written_to_it, a_run_goes_on_by_its_next_event,
+    an_event_halts_or_awaits_or_finishes, an_event_touches_one_cell_and_one_vcpu,
+};
 pub use machine::{Machine, Parts};
 pub use order::Order;
 pub use page_access::apply_to_page;

@@ -1,0 +1,56 @@
+-- What the laws of events and runs say (this project's own events, docs/MACHINE.md).
+use Rattle.std.specs.Prelude.{◌≡◌, ◌≢◌, ℕ, ◌+◌, ◌<◌, List, length, slice_get, Option, Some, None, IsSome}
+use Rattle.ram_block.specs.Shape.{ShapeData, total_pages_of}
+use Rattle.ram_block.specs.declared.page_buf.TheConstants.{PAGE}
+use Rattle.rv64i_step.specs.Event.{request_of}
+use Rattle.rv64i_step.specs.Outcome.{FetchOutcome, Finishes}
+use Rattle.rv64i_step.specs.Vcpu.{VcpuData}
+use Rattle.rv64i_step.specs.declared.state.State.TheVariants.{Running}
+use Rattle.flat_machine.specs.Cell.{CellName, PageCell, SerialCell, TimerCell, Content, Page, Serial, Timer, content}
+use Rattle.flat_machine.specs.Machine.{MachineData}
+use Rattle.flat_machine.specs.Next.{cell_of}
+
+-- the cell is one of a machine of this shape, and the content is one of that cell: a whole page, or a device
+abbrev pub IsContentOf : ShapeData → CellName → Content → Type 0
+IsContentOf shape (PageCell p) (Page bytes) = (p < total_pages_of shape) × (length bytes ≡ PAGE)
+IsContentOf shape SerialCell (Serial s) = Unit {0}
+IsContentOf shape TimerCell (Timer cmp) = Unit {0}
+IsContentOf shape _ _ = ⊥
+
+-- what one event makes of its vCPU: from a fetch one of three outcomes, and a pending access is made
+pub data EventOutcome (v after : VcpuData) : Type 0 where
+  OfFetch : v.pending ≡ None → FetchOutcome v after → EventOutcome v after
+  OfAccess : IsSome v.pending → Finishes v after → EventOutcome v after
+
+-- vCPU k ran before the event, and what it is afterwards
+pub record HasEvent (m : MachineData) (k : ℕ) (after : MachineData) : Type 0 where
+  pub was : VcpuData
+  pub stood : slice_get m.vcpus k ≡ Some was
+  pub ran : was.state ≡ Running
+  pub is : VcpuData
+  pub stands : slice_get after.vcpus k ≡ Some is
+  pub outcome : EventOutcome was is
+
+-- the cell that the next event of vCPU k touches, where it touches one
+abbrev pub touched_of : ShapeData → Option VcpuData → Option CellName
+touched_of shape None = None
+touched_of shape (Some v) = cell_of (request_of shape v)
+
+unfoldable pub touched : MachineData → ℕ → Option CellName
+touched m k = touched_of m.shape (slice_get m.vcpus k)
+
+-- an event leaves every other vCPU, and every cell but the one that it touches
+pub record KeepsRest (m : MachineData) (k : ℕ) (after : MachineData) : Type 0 where
+  pub shape : after.shape ≡ m.shape
+  pub clock : after.clock ≡ m.clock + 1
+  pub count : length after.vcpus ≡ length m.vcpus
+  pub vcpus : (j : ℕ) → j ≢ k → slice_get after.vcpus j ≡ slice_get m.vcpus j
+  pub ram : length after.ram ≡ length m.ram
+  pub cells : (d : CellName) → touched m k ≢ Some d → content after d ≡ content m d
+
+-- two machines have the same in all that the next event of vCPU k depends on
+pub record AgreesAt (m other : MachineData) (k : ℕ) : Type 0 where
+  pub shape : other.shape ≡ m.shape
+  pub clock : other.clock ≡ m.clock
+  pub vcpu : slice_get other.vcpus k ≡ slice_get m.vcpus k
+  pub cell : (c : CellName) → touched m k ≡ Some c → content other c ≡ content m c

@@ -1,0 +1,44 @@
+ghost use Rattle.std.specs.Prelude.{◌≡◌, ◌≢◌, ℕ, ◌≤◌, ◌↔◌, true, ◌∷◌, ◌++◌, [], List, Option, Some, None, length, slice_get, take};
+ghost use Rattle.ram_block.specs.Shape.{ram_bytes_of};
+ghost use Rattle.ram_block.specs.declared.cause.Cause.{Cause};
+ghost use Rattle.rv64i_step.specs.Event.{fetched_vcpu, request_of};
+ghost use Rattle.rv64i_step.specs.Vcpu.{VcpuData};
+ghost use Rattle.rv64i_step.specs.declared.request.Request.{Request};
+ghost use Rattle.rv64i_step.specs.declared.request.Request.TheVariants.{NoFetch};
+ghost use Rattle.flat_machine.specs.Cell.{CellName, Content, content, with_content};
+ghost use Rattle.flat_machine.specs.Laws.{HasEvent, IsContentOf};
+ghost use Rattle.flat_machine.specs.Machine.{IsMachine, MachineData};
+ghost use Rattle.flat_machine.specs.Next.{cell_of, next, touched_by, with_vcpu};
+ghost use Rattle.flat_machine.specs.Run.{halted_at, run, run_on};
+
+/// The law of runs: a run goes on by its next event, its beginnings stay, and one order follows another.
+#[tactic(auto, using(crate::proofs::Runs::run_laws))]
+pub fn a_run_goes_on_by_its_next_event()
+    ensures next { (m : MachineData) (n : MachineData) (o : List ℕ) (k : ℕ) → run m o ≡ Some n → run m (o ++ k ∷ []) ≡ next n k }
+    ensures beginnings { (m : MachineData) (o : List ℕ) (k : ℕ) (t : ℕ) → t ≤ length o → run m (take t (o ++ k ∷ [])) ≡ run m (take t o) }
+    ensures joined { (m : MachineData) (o : List ℕ) (p : List ℕ) → run m (o ++ p) ≡ run_on (run m o) p }
+{}
+
+/// The law of an event: it writes to the cell of its request, to its vCPU, and raises the clock; a fetch that has no
+/// place writes to its vCPU alone.
+#[tactic(auto, using(crate::proofs::Events::event_laws))]
+pub fn an_event_touches_one_cell_and_one_vcpu()
+    ensures touches { (m : MachineData) (k : ℕ) (v : VcpuData) (r : Request) (c : CellName) → slice_get m.vcpus k ≡ Some v → request_of m.shape v ≡ r → cell_of r ≡ Some c → next m k ≡ Some (touched_by m k v r c) }
+    ensures no_fetch { (m : MachineData) (k : ℕ) (v : VcpuData) (cause : Cause) → slice_get m.vcpus k ≡ Some v → request_of m.shape v ≡ NoFetch cause → next m k ≡ Some (with_vcpu m k (fetched_vcpu m.shape v None)) }
+{}
+
+/// The law of cells: a cell holds what was written to it last, and every other cell what it held.
+#[tactic(auto, using(crate::proofs::Cells::cell_laws))]
+pub fn a_cell_holds_what_was_written_to_it()
+    ensures same { (m : MachineData) (c : CellName) (x : Content) → length m.ram ≡ ram_bytes_of m.shape → IsContentOf m.shape c x → content (with_content m c x) c ≡ x }
+    ensures other { (m : MachineData) (c : CellName) (d : CellName) (x : Content) → length m.ram ≡ ram_bytes_of m.shape → IsContentOf m.shape c x → d ≢ c → content (with_content m c x) d ≡ content m d }
+    ensures size { (m : MachineData) (c : CellName) (x : Content) → length m.ram ≡ ram_bytes_of m.shape → IsContentOf m.shape c x → length (with_content m c x).ram ≡ length m.ram }
+{}
+
+/// The law of what comes of an event: there is none exactly where the vCPU is halted, and an event makes its vCPU into
+/// one that is halted where it stood, or awaits an access, or has finished an instruction.
+#[tactic(auto, using(crate::proofs::Outcomes::outcome_laws))]
+pub fn an_event_halts_or_awaits_or_finishes()
+    ensures none { (m : MachineData) (k : ℕ) → IsMachine m → (next m k ≡ None) ↔ (halted_at m k ≡ true) }
+    ensures event { (m : MachineData) (k : ℕ) (after : MachineData) → IsMachine m → next m k ≡ Some after → HasEvent m k after }
+{}
