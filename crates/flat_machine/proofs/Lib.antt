@@ -6,3 +6,4 @@ pub mod Cells
 pub mod Events
 pub mod Outcomes
 pub mod Phases
+pub mod Turns

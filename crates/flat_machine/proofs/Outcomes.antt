@@ -204,9 +204,9 @@ next_from m k after kind moved =
     ] in
     let at = not_halted m k on in
     elim (next_running m k at.0 at.1 at.2 (kind k at.0 at.1)) [
-      Happens w is from ↦
-        (let e : w ≡ after = same_Some w after (sym is ∙ moved) in
-        record { was = at.0; stood = at.1; ran = at.2; from = subst (EventFrom at.0 m k) e from })
+      | Happens w is from ↦
+          (let e : w ≡ after = same_Some w after (sym is ∙ moved) in
+          record { was = at.0; stood = at.1; ran = at.2; from = subst (EventFrom at.0 m k) e from })
     ]
 
 -- what the event makes of its vCPU

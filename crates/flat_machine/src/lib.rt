@@ -11,6 +11,7 @@ mod machine;
 mod order;
 mod page_access;
 mod ram;
+mod rounds;
 mod step;
 mod vcpus;
 

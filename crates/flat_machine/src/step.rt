@@ -1,4 +1,4 @@
-ghost use Rattle.std.specs.Prelude.{◌≡◌, ◌<◌, ◌^◌, ◌↔◌, true};
+ghost use Rattle.std.specs.Prelude.{◌≡◌, ◌<◌, ◌≤◌, ◌+◌, ◌^◌, ◌↔◌, ℕ, All, true};
 ghost use Rattle.rv64i_step.specs.Vcpu.{HasPage};
 ghost use Rattle.flat_machine.specs.Cell.{cell_at, content, content_after, gives, with_content};
 ghost use Rattle.flat_machine.specs.Fits.{FitsCell};
@@ -32,6 +32,9 @@ impl Machine {
         requires steps { steps_of self.old k < 2 ^ 63 }
         ensures event { StepsTo self.old k result self.new }
         ensures halted { (result ≡ Halted) ↔ (halted_at self.old k ≡ true) }
+        ensures shape { self.new.shape ≡ self.old.shape }
+        ensures clock { self.new.clock ≤ self.old.clock + 1 }
+        ensures steps { (most : ℕ) → All (λ v. v.steps ≤ most) self.old.vcpus → All (λ v. v.steps ≤ most + 1) self.new.vcpus }
         ensures limits { IsMachine self.new }
     {
         let request = request_of(&self.vcpus, k as usize, &self.shape);

@@ -1,4 +1,4 @@
-ghost use Rattle.std.specs.Prelude.{◌≡◌, ◌<◌, ◌^◌, length, slice_get, slice_set, vec_len, All, Some, IsSome};
+ghost use Rattle.std.specs.Prelude.{◌≡◌, ◌<◌, ◌≤◌, ◌+◌, ◌^◌, ℕ, length, slice_get, slice_set, vec_len, All, Some, IsSome};
 ghost use Rattle.rv64i_step.specs.Event.{accessed_vcpu, fetched_vcpu, request_of, IsStage, CanServe, RequestsPage};
 ghost use Rattle.rv64i_step.specs.Vcpu.{IsPlaced, IsReady, IsVcpu, VcpuData};
 
@@ -25,6 +25,7 @@ pub(crate) fn fetch_into(vcpus: &mut Vec<Vcpu>, k: usize, shape: &Shape, word: O
     requires placed { All (IsPlaced shape.now) vcpus.old.items }
     ensures event { (v : VcpuData) → slice_get vcpus.old.items k ≡ Some v → vcpus.new.items ≡ slice_set vcpus.old.items k (fetched_vcpu shape.now v word) }
     ensures count { vec_len vcpus.new ≡ vec_len vcpus.old }
+    ensures steps { (most : ℕ) → All (λ v. v.steps ≤ most) vcpus.old.items → All (λ v. v.steps ≤ most + 1) vcpus.new.items }
     ensures each { All IsVcpu vcpus.new.items }
     ensures placed { All (IsPlaced shape.now) vcpus.new.items }
 {
@@ -40,6 +41,7 @@ pub(crate) fn access_into(vcpus: &mut Vec<Vcpu>, k: usize, shape: &Shape, value:
     requires placed { All (IsPlaced shape.now) vcpus.old.items }
     ensures event { (v : VcpuData) → slice_get vcpus.old.items k ≡ Some v → vcpus.new.items ≡ slice_set vcpus.old.items k (accessed_vcpu v value) }
     ensures count { vec_len vcpus.new ≡ vec_len vcpus.old }
+    ensures steps { (most : ℕ) → All (λ v. v.steps ≤ most) vcpus.old.items → All (λ v. v.steps ≤ most + 1) vcpus.new.items }
     ensures each { All IsVcpu vcpus.new.items }
     ensures placed { All (IsPlaced shape.now) vcpus.new.items }
 {

@@ -1,4 +1,4 @@
-ghost use Rattle.std.specs.Prelude.{◌≡◌, ◌≢◌, ◌<◌, ◌^◌, ◌↔◌, None, IsSome};
+ghost use Rattle.std.specs.Prelude.{◌≡◌, ◌≢◌, ◌<◌, ◌≤◌, ◌+◌, ◌^◌, ◌↔◌, None, IsSome};
 ghost use Rattle.ram_block.specs.AddressMap.{located};
 ghost use Rattle.ram_block.specs.declared.place.Way.TheVariants as ways;
 ghost use Rattle.ram_block.specs.declared.place.Width.TheVariants.{Four};
@@ -40,6 +40,7 @@ impl Vcpu {
         requires ready { IsReady self.old }
         ensures event { self.new ≡ fetched_vcpu shape.now self.old word }
         ensures placed { IsPlaced shape.now self.new }
+        ensures steps { self.new.steps ≤ self.old.steps + 1 }
         ensures limits { IsVcpu self.new }
     {
         match word {
@@ -62,6 +63,7 @@ impl Vcpu {
         requires steps { self.old.steps < 2 ^ 63 }
         ensures event { self.new ≡ accessed_vcpu self.old value }
         ensures done { self.new.pending ≡ None }
+        ensures steps { self.new.steps ≤ self.old.steps + 1 }
         ensures limits { IsVcpu self.new }
     {
         if let Some(access) = self.pending {
@@ -111,6 +113,7 @@ impl Vcpu {
         requires valid { IsValid access.instr }
         ensures event { self.new ≡ made self.old value access.instr }
         ensures pending { self.new.pending ≡ self.old.pending }
+        ensures steps { self.new.steps ≤ self.old.steps + 1 }
         ensures limits { IsVcpu self.new }
     {
         match access.instr {

@@ -1,4 +1,4 @@
-ghost use Rattle.std.specs.Prelude.{◌≡◌, ◌<◌, ◌-◌, ◌%◌, ◌^◌, ℤ, ℕ, None, if◌then◌else◌};
+ghost use Rattle.std.specs.Prelude.{◌≡◌, ◌<◌, ◌≤◌, ◌+◌, ◌-◌, ◌%◌, ◌^◌, ℤ, ℕ, None, if◌then◌else◌};
 ghost use Rattle.ram_block.specs.AddressMap.{located};
 ghost use Rattle.ram_block.specs.declared.cause.Cause.TheVariants as causes;
 ghost use Rattle.ram_block.specs.declared.place.Place.{Place};
@@ -23,6 +23,7 @@ impl Vcpu {
         requires ready { IsReady self.old }
         requires valid { IsValid instr }
         ensures event { self.new ≡ executed shape.now self.old instr }
+        ensures steps { self.new.steps ≤ self.old.steps + 1 }
         ensures placed { IsPlaced shape.now self.new }
         ensures limits { IsVcpu self.new }
     {
