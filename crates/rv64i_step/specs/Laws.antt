@@ -67,6 +67,13 @@ pub record JumpsLand : Type 0 where
       is_taken op (reg_of v rs1) (reg_of v rs2) ≡ false →
       executed shape v (Branch op rs1 rs2 off) ≡ record v { pc = next_pc v; steps = v.steps + 1 }
 
+-- a jump that didn't halt leaves the address of the next instruction in rd
+pub record JumpsLink : Type 0 where
+  pub jal : (shape : ShapeData) (v : VcpuData) (rd : ℕ) (off : ℤ) → length v.regs ≡ 31 → 0 < rd → rd < 32 →
+      (executed shape v (Jal rd off)).state ≡ Running → reg_of (executed shape v (Jal rd off)) rd ≡ next_pc v
+  pub jalr : (shape : ShapeData) (v : VcpuData) (rd rs1 : ℕ) (off : ℤ) → length v.regs ≡ 31 → 0 < rd → rd < 32 →
+      (executed shape v (Jalr rd rs1 off)).state ≡ Running → reg_of (executed shape v (Jalr rd rs1 off)) rd ≡ next_pc v
+
 -- opposite branches are opposite
 pub record BranchesOppose : Type 0 where
   pub equal : (a b : ℕ) → is_taken Bne a b ≡ not (is_taken Beq a b)
