@@ -16,9 +16,10 @@ use Rattle.rv64i_step.specs.Access.{load_width, store_width, amo_width, loaded, 
 use Rattle.rv64i_step.specs.Arithmetic.{bits64, sum64, is_taken}
 use Rattle.rv64i_step.specs.Event.{made, access_made, accessed_vcpu}
 use Rattle.rv64i_step.specs.Execute.{executed, jumps, aimed, address_of, even}
-use Rattle.rv64i_step.specs.Laws.{KeepsRegisters, RegistersKeep, WritesOne, rd_of}
+use Rattle.rv64i_step.specs.Laws.{JumpsLink, KeepsRegisters, RegistersKeep, WritesOne, rd_of}
 use Rattle.rv64i_step.specs.Vcpu.{VcpuData, with_reg, next_pc, finished, halted, reg_of}
 use Rattle.rv64i_step.specs.declared.access.Access.{Access}
+use Rattle.rv64i_step.specs.declared.state.State.TheVariants.{Running}
 
 -- a number above 0 isn't 0, as a test
 not_zero : (i : ℕ) → 0 < i → (i == 0) ≡ false
@@ -142,4 +143,18 @@ keeps_registers = record {
   fence = λ shape v rd rs1 bits. refl;
   ecall = λ shape v. refl;
   ebreak = λ shape v. refl;
+}
+
+-- what a jump that didn't halt leaves in rd
+links_either : (b : Bool) (v : VcpuData) (rd linked target : ℕ) → length v.regs ≡ 31 → 0 < rd → rd < 32 →
+    (if b then finished (with_reg v rd linked) target else halted v causes.JumpMisaligned).state ≡ Running →
+    reg_of (if b then finished (with_reg v rd linked) target else halted v causes.JumpMisaligned) rd ≡ linked
+links_either true v rd linked target count above below runs = reg_of-with_reg_same v rd linked count above below
+links_either false v rd linked target count above below runs = cc
+
+pub jumps_link : JumpsLink
+unfolding executed
+jumps_link = record {
+  jal = λ shape v rd off. let target = sum64 v.pc (bits64 off) in links_either (target % 4 == 0) v rd (next_pc v) target;
+  jalr = λ shape v rd rs1 off. let target = even (address_of v rs1 off) in links_either (target % 4 == 0) v rd (next_pc v) target;
 }

@@ -27,14 +27,17 @@ use Rattle.rv64i_step.specs.declared.state.State.TheVariants.{Running, Halted}
 
 -- a fetch with no access pending has one of three outcomes, and one with no place halts
 pub record FetchesEnd : Type 0 where
-  pub word : (shape : ShapeData) (v : VcpuData) (word : ℕ) → v.pending ≡ None → FetchOutcome v (fetched_vcpu shape v (Some word))
-  pub none : (shape : ShapeData) (v : VcpuData) (cause : Cause) → v.pending ≡ None → request_of shape v ≡ NoFetch cause →
-      HaltsWith v (fetched_vcpu shape v None) cause
+  pub word : (shape : ShapeData) (v : VcpuData) (word : ℕ) → v.pending ≡ None →
+      FetchOutcome v (fetched_vcpu shape v (Some word))
+  pub none : (shape : ShapeData) (v : VcpuData) (cause : Cause) → v.pending ≡ None →
+      request_of shape v ≡ NoFetch cause → HaltsWith v (fetched_vcpu shape v None) cause
 
 -- no two of the three outcomes come together
 pub record OutcomesDiffer : Type 0 where
-  pub halts_or_awaits : (v after : VcpuData) (cause : Cause) (access : Access) → HaltsWith v after cause → AwaitsAccess v after access → ⊥
-  pub halts_or_finishes : (v after : VcpuData) (cause : Cause) → v.state ≡ Running → HaltsWith v after cause → Finishes v after → ⊥
+  pub halts_or_awaits : (v after : VcpuData) (cause : Cause) (access : Access) → HaltsWith v after cause →
+      AwaitsAccess v after access → ⊥
+  pub halts_or_finishes : (v after : VcpuData) (cause : Cause) → v.state ≡ Running → HaltsWith v after cause →
+      Finishes v after → ⊥
   pub awaits_or_finishes : (v after : VcpuData) (access : Access) → AwaitsAccess v after access → Finishes v after → ⊥
 
 -- an access finishes its instruction
@@ -45,8 +48,8 @@ AccessesFinish = (v : VcpuData) (value : ℕ) (access : Access) → v.pending �
 -- a vCPU that is halted asks for nothing, and one that runs for something
 pub record AsksWhileRunning : Type 0 where
   pub halted : (shape : ShapeData) (v : VcpuData) (cause : Cause) → v.state ≡ Halted cause → request_of shape v ≡ Nothing
-  pub running : (shape : ShapeData) (v : VcpuData) → v.state ≡ Running → IfSome v.pending (λ access. AccessesMemory access.instr) →
-      request_of shape v ≢ Nothing
+  pub running : (shape : ShapeData) (v : VcpuData) → v.state ≡ Running →
+      IfSome v.pending (λ access. AccessesMemory access.instr) → request_of shape v ≢ Nothing
 
 -- the vCPU goes on from this target, which is a multiple of 4
 pub record LandsAt (after : VcpuData) (target : ℕ) : Type 0 where
@@ -56,16 +59,23 @@ pub record LandsAt (after : VcpuData) (target : ℕ) : Type 0 where
 -- a jump or a taken branch that didn't halt is at its target, of what the registers were before; and a branch that
 -- isn't taken goes on with the next instruction
 pub record JumpsLand : Type 0 where
-  pub jal : (shape : ShapeData) (v : VcpuData) (rd : ℕ) (off : ℤ) → (executed shape v (Jal rd off)).state ≡ Running →
-      LandsAt (executed shape v (Jal rd off)) (sum64 v.pc (bits64 off))
-  pub jalr : (shape : ShapeData) (v : VcpuData) (rd rs1 : ℕ) (off : ℤ) → (executed shape v (Jalr rd rs1 off)).state ≡ Running →
-      LandsAt (executed shape v (Jalr rd rs1 off)) (even (address_of v rs1 off))
+  pub jal : (shape : ShapeData) (v : VcpuData) (rd : ℕ) (off : ℤ) →
+      (executed shape v (Jal rd off)).state ≡ Running → LandsAt (executed shape v (Jal rd off)) (sum64 v.pc (bits64 off))
+  pub jalr : (shape : ShapeData) (v : VcpuData) (rd rs1 : ℕ) (off : ℤ) →
+      (executed shape v (Jalr rd rs1 off)).state ≡ Running → LandsAt (executed shape v (Jalr rd rs1 off)) (even (address_of v rs1 off))
   pub taken : (shape : ShapeData) (v : VcpuData) (op : BranchOp) (rs1 rs2 : ℕ) (off : ℤ) →
       is_taken op (reg_of v rs1) (reg_of v rs2) ≡ true → (executed shape v (Branch op rs1 rs2 off)).state ≡ Running →
       LandsAt (executed shape v (Branch op rs1 rs2 off)) (sum64 v.pc (bits64 off))
   pub untaken : (shape : ShapeData) (v : VcpuData) (op : BranchOp) (rs1 rs2 : ℕ) (off : ℤ) →
       is_taken op (reg_of v rs1) (reg_of v rs2) ≡ false →
       executed shape v (Branch op rs1 rs2 off) ≡ record v { pc = next_pc v; steps = v.steps + 1 }
+
+-- a jump that didn't halt leaves the address of the next instruction in rd
+pub record JumpsLink : Type 0 where
+  pub jal : (shape : ShapeData) (v : VcpuData) (rd : ℕ) (off : ℤ) → length v.regs ≡ 31 → 0 < rd → rd < 32 →
+      (executed shape v (Jal rd off)).state ≡ Running → reg_of (executed shape v (Jal rd off)) rd ≡ next_pc v
+  pub jalr : (shape : ShapeData) (v : VcpuData) (rd rs1 : ℕ) (off : ℤ) → length v.regs ≡ 31 → 0 < rd → rd < 32 →
+      (executed shape v (Jalr rd rs1 off)).state ≡ Running → reg_of (executed shape v (Jalr rd rs1 off)) rd ≡ next_pc v
 
 -- opposite branches are opposite
 pub record BranchesOppose : Type 0 where
@@ -88,7 +98,8 @@ pub record KeepsRegisters : Type 0 where
 pub record RegistersKeep : Type 0 where
   pub zero : (v : VcpuData) → reg_of v 0 ≡ 0
   pub others : (v : VcpuData) (rd value i : ℕ) → i ≢ rd → reg_of (with_reg v rd value) i ≡ reg_of v i
-  pub written : (v : VcpuData) (rd value : ℕ) → length v.regs ≡ 31 → 0 < rd → rd < 32 → reg_of (with_reg v rd value) rd ≡ value
+  pub written : (v : VcpuData) (rd value : ℕ) → length v.regs ≡ 31 → 0 < rd → rd < 32 →
+      reg_of (with_reg v rd value) rd ≡ value
 
 -- the register that an instruction writes; 0 where it writes none
 abbrev pub rd_of : Instr → ℕ
@@ -112,9 +123,10 @@ rd_of (Amo op wide rd rs1 rs2 order) = rd
 
 -- an instruction changes no other register
 pub record WritesOne : Type 0 where
-  pub fetched : (shape : ShapeData) (v : VcpuData) (instr : Instr) (i : ℕ) → i ≢ rd_of instr → reg_of (executed shape v instr) i ≡ reg_of v i
-  pub accessed : (v : VcpuData) (value : ℕ) (access : Access) (i : ℕ) → v.pending ≡ Some access → i ≢ rd_of access.instr →
-      reg_of (accessed_vcpu v value) i ≡ reg_of v i
+  pub fetched : (shape : ShapeData) (v : VcpuData) (instr : Instr) (i : ℕ) → i ≢ rd_of instr →
+      reg_of (executed shape v instr) i ≡ reg_of v i
+  pub accessed : (v : VcpuData) (value : ℕ) (access : Access) (i : ℕ) → v.pending ≡ Some access →
+      i ≢ rd_of access.instr → reg_of (accessed_vcpu v value) i ≡ reg_of v i
 
 -- a register holds the sign extension of its own low word
 abbrev pub IsWordAt : VcpuData → ℕ → Type 0

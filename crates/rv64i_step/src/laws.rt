@@ -1,4 +1,4 @@
-ghost use Rattle.rv64i_step.specs.Laws.{AccessesFinish, AmosChoose, AsksWhileRunning, BranchesOppose, FetchesEnd, JumpsLand, KeepsRegisters, OutcomesDiffer, RegistersKeep, ResultsAreWords, WritesOne};
+ghost use Rattle.rv64i_step.specs.Laws.{AccessesFinish, AmosChoose, AsksWhileRunning, BranchesOppose, FetchesEnd, JumpsLand, JumpsLink, KeepsRegisters, OutcomesDiffer, RegistersKeep, ResultsAreWords, WritesOne};
 
 /// The law of a fetch: the vCPU halts where it stands, or an access becomes pending, or the instruction is finished.
 #[tactic(auto, using(crate::proofs::Outcomes::fetches_end))]
@@ -28,6 +28,12 @@ pub fn vcpus_ask_while_running()
 #[tactic(auto, using(crate::proofs::Jumps::jumps_land))]
 pub fn jumps_land()
     ensures { JumpsLand }
+{}
+
+/// The law of what a jump leaves in its rd.
+#[tactic(auto, using(crate::proofs::Registers::jumps_link))]
+pub fn jumps_link()
+    ensures { JumpsLink }
 {}
 
 /// The law that a branch is taken exactly where its opposite isn't.

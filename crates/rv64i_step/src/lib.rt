@@ -17,8 +17,8 @@ pub use access::Access;
 pub use amo::amo_result;
 pub use laws::{
     accesses_finish, amos_choose, branches_oppose, fetches_end, instructions_write_one_register,
-    jumps_land, outcomes_differ, registers_keep, results_are_words, stores_keep_registers,
-    vcpus_ask_while_running,
+    jumps_land, jumps_link, outcomes_differ, registers_keep, results_are_words,
+    stores_keep_registers, vcpus_ask_while_running,
 };
 pub use request::Request;
 pub use state::State;
