@@ -6,3 +6,7 @@ pub mod Cells
 pub mod Events
 pub mod Outcomes
 pub mod Phases
+pub mod Rounds
+pub mod PhaseEnds
+pub mod Inside
+pub mod Frames

@@ -8,7 +8,7 @@ use Rattle.rv64i_step.specs.Vcpu.{VcpuData}
 use Rattle.rv64i_step.specs.declared.state.State.TheVariants.{Running}
 use Rattle.flat_machine.specs.Cell.{CellName, PageCell, SerialCell, TimerCell, Content, Page, Serial, Timer, content}
 use Rattle.flat_machine.specs.Machine.{MachineData}
-use Rattle.flat_machine.specs.Next.{cell_of}
+use Rattle.flat_machine.specs.Next.{cell_of, next}
 
 -- the cell is one of a machine of this shape, and the content is one of that cell: a whole page, or a device
 abbrev pub IsContentOf : ShapeData → CellName → Content → Type 0
@@ -54,3 +54,10 @@ pub record AgreesAt (m other : MachineData) (k : ℕ) : Type 0 where
   pub clock : other.clock ≡ m.clock
   pub vcpu : slice_get other.vcpus k ≡ slice_get m.vcpus k
   pub cell : (c : CellName) → touched m k ≡ Some c → content other c ≡ content m c
+
+-- the event of vCPU k of the other machine makes the same of the vCPU, and of the cell that it touches
+pub record MakesTheSame (m : MachineData) (k : ℕ) (after other : MachineData) : Type 0 where
+  pub other_after : MachineData
+  pub moved : next other k ≡ Some other_after
+  pub vcpu : slice_get other_after.vcpus k ≡ slice_get after.vcpus k
+  pub cell : (c : CellName) → touched m k ≡ Some c → content other_after c ≡ content after c
