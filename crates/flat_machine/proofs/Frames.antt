@@ -10,20 +10,20 @@ use Rattle.rv64i_step.specs.Vcpu.{VcpuData}
 use Rattle.rv64i_step.specs.declared.request.Request.{Request}
 use Rattle.rv64i_step.specs.declared.request.Request.TheVariants.{Nothing, NoFetch, Fetch, Load, Store, Amo}
 use Rattle.flat_machine.specs.Cell.{CellName, PageCell, SerialCell, TimerCell, Content, cell_at, content, content_after, gives, with_content}
-use Rattle.flat_machine.specs.Laws.{IsContentOf, KeepsRest, AgreesAt, MakesTheSame, touched_of, touched}
-use Rattle.flat_machine.specs.Machine.{MachineData, IsMachine}
+use Rattle.flat_machine.specs.Laws.{ServesAll, IsContentOf, KeepsRest, AgreesAt, MakesTheSame, touched_of, touched}
+use Rattle.flat_machine.specs.Machine.{MachineData}
 use Rattle.flat_machine.specs.Next.{cell_of, vcpu_after, with_vcpu, touched_by, event_with, next}
 use Rattle.flat_machine.proofs.Cells.{cell_write, length-with_content, content-with_content_same, content-with_content_other}
 use Rattle.flat_machine.proofs.Events.{slice_get-set_same, slice_get-set_other, next_with, next_past, next_touches, next_no_fetch}
-use Rattle.flat_machine.proofs.Inside.{IsInside, written_inside, machine_inside}
+use Rattle.flat_machine.proofs.Inside.{IsInside, written_inside, served_inside}
 use Rattle.flat_machine.proofs.Outcomes.{option_cases}
 
 -- an event that touches a cell, or the vCPU alone
 pub data EventCase (m : MachineData) (k : ℕ) (after : MachineData) : Type 0 where
   Touching : (v : VcpuData) (r : Request) (c : CellName) → slice_get m.vcpus k ≡ Some v → request_of m.shape v ≡ r → cell_of r ≡ Some c →
-    after ≡ touched_by m k v r c → EventCase m k after
+      after ≡ touched_by m k v r c → EventCase m k after
   Alone : (v : VcpuData) (cause : Cause) → slice_get m.vcpus k ≡ Some v → request_of m.shape v ≡ NoFetch cause →
-    after ≡ with_vcpu m k (fetched_vcpu m.shape v None) → EventCase m k after
+      after ≡ with_vcpu m k (fetched_vcpu m.shape v None) → EventCase m k after
 
 -- by its request
 case_of : (m : MachineData) (k : ℕ) (v : VcpuData) (r : Request) (after : MachineData) → slice_get m.vcpus k ≡ Some v →
@@ -79,7 +79,7 @@ touched_keeps m k v r c size of touches =
       vcpus = λ j other. slice_get-set_other (with_content m c x).vcpus k j w other ∙ ap (λ vs. slice_get vs j) write.vcpus;
       ram = length-with_content m c x size of;
       cells = λ d other. content-with_vcpu (with_content m c x) k w d
-        ∙ content-with_content_other m c d x size of (λ e. other (touches ∙ ap Some (sym e)));
+          ∙ content-with_content_other m c d x size of (λ e. other (touches ∙ ap Some (sym e)));
     }
 
 -- one that writes to its vCPU alone
@@ -94,13 +94,12 @@ alone_keeps m k w = record {
 }
 
 -- the first half of the law of the frame
-pub next_keeps : (m : MachineData) (k : ℕ) (after : MachineData) → length m.ram ≡ ram_bytes_of m.shape →
-    ((v : VcpuData) → slice_get m.vcpus k ≡ Some v → IsInside m.shape (request_of m.shape v)) → next m k ≡ Some after → KeepsRest m k after
-next_keeps m k after size inside moved =
+pub next_keeps : (m : MachineData) (k : ℕ) (after : MachineData) → ServesAll m → next m k ≡ Some after → KeepsRest m k after
+next_keeps m k after serves moved =
     elim (event_case m k after moved) [
       | Touching v r c stood asks touches is ↦
-          (let of = written_inside m r c size (subst (IsInside m.shape) asks (inside v stood)) touches in
-          subst (KeepsRest m k) (sym is) (touched_keeps m k v r c size of (touched-is m k v r stood asks ∙ touches)))
+          (let of = written_inside m r c serves.ram (subst (IsInside m.shape) asks (served_inside m k v serves stood)) touches in
+          subst (KeepsRest m k) (sym is) (touched_keeps m k v r c serves.ram of (touched-is m k v r stood asks ∙ touches)))
       | Alone v cause stood asks is ↦ subst (KeepsRest m k) (sym is) (alone_keeps m k (fetched_vcpu m.shape v None))
     ]
 
@@ -122,27 +121,27 @@ touched_content m k v r c size of =
     content-with_vcpu (with_content m c x) k (vcpu_after m.shape v r (gives r (content m c) m.clock)) c ∙ content-with_content_same m c x size of
 
 -- two machines that have the same there make the same of it
-touched_same : (m other : MachineData) (k : ℕ) (v : VcpuData) (r : Request) (c : CellName) → IsMachine m → IsMachine other → AgreesAt m other k →
+touched_same : (m other : MachineData) (k : ℕ) (v : VcpuData) (r : Request) (c : CellName) → ServesAll m → ServesAll other → AgreesAt m other k →
     slice_get m.vcpus k ≡ Some v → request_of m.shape v ≡ r → cell_of r ≡ Some c → MakesTheSame m k (touched_by m k v r c) other
 touched_same m other k v r c is is_other agrees stood asks touches =
     let here = touched-is m k v r stood asks ∙ touches in
     let there = agrees.vcpu ∙ stood in
     let asks_there = ap (λ s. request_of s v) agrees.shape ∙ asks in
     let held = agrees.cell c here in
-    let of = written_inside m r c is.ram (subst (IsInside m.shape) asks (machine_inside m k v is stood)) touches in
-    let of_other = written_inside other r c is_other.ram (subst (IsInside other.shape) asks_there (machine_inside other k v is_other there)) touches in
+    let of = written_inside m r c is.ram (subst (IsInside m.shape) asks (served_inside m k v is stood)) touches in
+    let of_other = written_inside other r c is_other.ram (subst (IsInside other.shape) asks_there (served_inside other k v is_other there)) touches in
     record {
       other_after = touched_by other k v r c;
       moved = next_touches other k v r c there asks_there touches;
       vcpu = touched_vcpu other k v r c there
-        ∙ ap (λ s. Some (vcpu_after s v r (gives r (content other c) other.clock))) agrees.shape
-        ∙ ap (λ t. Some (vcpu_after m.shape v r (gives r (content other c) t))) agrees.clock
-        ∙ ap (λ x. Some (vcpu_after m.shape v r (gives r x m.clock))) held
-        ∙ sym (touched_vcpu m k v r c stood);
+          ∙ ap (λ s. Some (vcpu_after s v r (gives r (content other c) other.clock))) agrees.shape
+          ∙ ap (λ t. Some (vcpu_after m.shape v r (gives r (content other c) t))) agrees.clock
+          ∙ ap (λ x. Some (vcpu_after m.shape v r (gives r x m.clock))) held
+          ∙ sym (touched_vcpu m k v r c stood);
       cell = λ d touched_d.
-        (let e : c ≡ d = same_Some c d (sym here ∙ touched_d) in
-        subst (λ (x : CellName). content (touched_by other k v r c) x ≡ content (touched_by m k v r c) x) e
-        (touched_content other k v r c is_other.ram of_other ∙ ap (content_after r) held ∙ sym (touched_content m k v r c is.ram of)));
+          (let e : c ≡ d = same_Some c d (sym here ∙ touched_d) in
+          subst (λ (x : CellName). content (touched_by other k v r c) x ≡ content (touched_by m k v r c) x) e
+          (touched_content other k v r c is_other.ram of_other ∙ ap (content_after r) held ∙ sym (touched_content m k v r c is.ram of)));
     }
 
 alone_same : (m other : MachineData) (k : ℕ) (v : VcpuData) (cause : Cause) → AgreesAt m other k → slice_get m.vcpus k ≡ Some v →
@@ -156,13 +155,13 @@ alone_same m other k v cause agrees stood asks =
       other_after = with_vcpu other k w_there;
       moved = next_no_fetch other k v cause there asks_there;
       vcpu = slice_get-set_same other.vcpus k w_there (slice_get_within other.vcpus k v there)
-        ∙ ap (λ s. Some (fetched_vcpu s v None)) agrees.shape
-        ∙ sym (slice_get-set_same m.vcpus k w (slice_get_within m.vcpus k v stood));
+          ∙ ap (λ s. Some (fetched_vcpu s v None)) agrees.shape
+          ∙ sym (slice_get-set_same m.vcpus k w (slice_get_within m.vcpus k v stood));
       cell = λ d touched_d. absurd (none-some d (sym (touched-is m k v (NoFetch cause) stood asks) ∙ touched_d));
     }
 
 -- the second half of the law of the frame
-pub next_depends : (m other : MachineData) (k : ℕ) (after : MachineData) → IsMachine m → IsMachine other → AgreesAt m other k →
+pub next_depends : (m other : MachineData) (k : ℕ) (after : MachineData) → ServesAll m → ServesAll other → AgreesAt m other k →
     next m k ≡ Some after → MakesTheSame m k after other
 next_depends m other k after is is_other agrees moved =
     elim (event_case m k after moved) [
@@ -171,7 +170,3 @@ next_depends m other k after is is_other agrees moved =
       | Alone v cause stood asks made ↦
           subst (λ (a : MachineData). MakesTheSame m k a other) (sym made) (alone_same m other k v cause agrees stood asks)
     ]
-
--- the first half, of a machine within the limits
-pub machine_keeps : (m : MachineData) (k : ℕ) (after : MachineData) → IsMachine m → next m k ≡ Some after → KeepsRest m k after
-machine_keeps m k after is moved = next_keeps m k after is.ram (λ v stood. machine_inside m k v is stood) moved

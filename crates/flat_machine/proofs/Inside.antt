@@ -21,15 +21,15 @@ use Rattle.rv64i_decode.specs.declared.instr.Instr.{Instr}
 use Rattle.rv64i_decode.specs.declared.instr.Instr.TheVariants as instrs
 use Rattle.rv64i_step.specs.Access.{load_width, store_width, amo_width, CanAccess}
 use Rattle.rv64i_step.specs.Event.{request_of, request_in, running_request, fetch_at, access_of}
-use Rattle.rv64i_step.specs.Vcpu.{VcpuData, IsVcpu, IsPlaced, IsPending, HasPage}
+use Rattle.rv64i_step.specs.Vcpu.{VcpuData, IsPlaced, IsPending, HasPage}
 use Rattle.rv64i_step.specs.declared.access.Access.{Access}
 use Rattle.rv64i_step.specs.declared.request.Request.{Request}
 use Rattle.rv64i_step.specs.declared.request.Request.TheVariants.{Nothing, NoFetch, Fetch, Load, Store, Amo}
 use Rattle.rv64i_step.specs.declared.state.State.{State}
 use Rattle.rv64i_step.specs.declared.state.State.TheVariants.{Running, Halted}
 use Rattle.flat_machine.specs.Cell.{CellName, PageCell, SerialCell, TimerCell, Content, Page, Serial, Timer, cell_at, content, content_after, page_after}
-use Rattle.flat_machine.specs.Laws.{IsContentOf}
-use Rattle.flat_machine.specs.Machine.{MachineData, IsMachine, page_of}
+use Rattle.flat_machine.specs.Laws.{IsContentOf, IsServable, ServesAll}
+use Rattle.flat_machine.specs.Machine.{MachineData, page_of}
 use Rattle.flat_machine.specs.Next.{cell_of}
 use Rattle.flat_machine.specs.Page.{bytes_of, with_bytes, with_number, page_at}
 use Rattle.flat_machine.proofs.Cells.{page_within}
@@ -144,7 +144,8 @@ pub written_inside : (m : MachineData) (r : Request) (c : CellName) → length m
     IsContentOf m.shape c (content_after r (content m c))
 written_inside m r c size is touches = content_stays m r c size is (cell_inside m.shape r c is touches)
 
--- and so in a machine within the limits
-pub machine_inside : (m : MachineData) (k : ℕ) (v : VcpuData) → IsMachine m → slice_get m.vcpus k ≡ Some v → IsInside m.shape (request_of m.shape v)
-machine_inside m k v is stood =
-    request_inside m.shape v (All-slice_get IsVcpu m.vcpus k v is.each stood).pending (All-slice_get (IsPlaced m.shape) m.vcpus k v is.placed stood)
+-- what is asked of a machine whose accesses all can be carried out
+pub served_inside : (m : MachineData) (k : ℕ) (v : VcpuData) → ServesAll m → slice_get m.vcpus k ≡ Some v → IsInside m.shape (request_of m.shape v)
+served_inside m k v serves stood =
+    let is = All-slice_get (IsServable m.shape) m.vcpus k v serves.each stood in
+    request_inside m.shape v is.pending is.placed

@@ -10,3 +10,4 @@ pub mod Rounds
 pub mod PhaseEnds
 pub mod Inside
 pub mod Frames
+pub mod Servable

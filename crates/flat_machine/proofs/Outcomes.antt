@@ -18,7 +18,7 @@ use Rattle.rv64i_decode.specs.declared.instr.Instr.{Instr}
 use Rattle.rv64i_decode.specs.declared.instr.Instr.TheVariants as instrs
 use Rattle.rv64i_step.specs.Event.{request_of, request_in, running_request, fetch_at, access_of, fetched_vcpu, accessed_vcpu}
 use Rattle.rv64i_step.specs.Outcome.{AccessesMemory, FetchOutcome, Finishes, HaltsWith, Halting, Awaiting, Finishing}
-use Rattle.rv64i_step.specs.Vcpu.{VcpuData, IsVcpu, IsPending}
+use Rattle.rv64i_step.specs.Vcpu.{VcpuData, IsPending}
 use Rattle.rv64i_step.specs.declared.access.Access.{Access}
 use Rattle.rv64i_step.specs.declared.request.Request.{Request}
 use Rattle.rv64i_step.specs.declared.request.Request.TheVariants as requests
@@ -26,8 +26,8 @@ use Rattle.rv64i_step.specs.declared.state.State.{State}
 use Rattle.rv64i_step.specs.declared.state.State.TheVariants.{Running, Halted}
 use Rattle.rv64i_step.proofs.Outcomes.{fetch_outcome, no_fetch_outcome, access_outcome}
 use Rattle.flat_machine.specs.Cell.{CellName, PageCell, cell_at, Content, content, content_after, gives, with_content}
-use Rattle.flat_machine.specs.Laws.{EventOutcome, OfFetch, OfAccess, HasEvent}
-use Rattle.flat_machine.specs.Machine.{MachineData, IsMachine}
+use Rattle.flat_machine.specs.Laws.{IsServable, ServesAll, EventOutcome, OfFetch, OfAccess, HasEvent}
+use Rattle.flat_machine.specs.Machine.{MachineData}
 use Rattle.flat_machine.specs.Next.{vcpu_after, with_vcpu, touched_by, event_with, event_of, next}
 use Rattle.flat_machine.specs.Run.{is_halted, halted_at}
 use Rattle.flat_machine.proofs.Cells.{cell_write}
@@ -52,9 +52,9 @@ pending_kind place _ is = absurd is
 pub at_some : {X : Type 0} (P : X → Type 0) (o : Option X) (x : X) → o ≡ Some x → IfSome o P → P x
 at_some P o x is all = subst (λ r. IfSome r P) is all
 
--- so it is in a vCPU within the limits
-pub vcpu_kind : (v : VcpuData) → IsVcpu v → AwaitsMemory v
-vcpu_kind v is access pending =
+-- so it is where the access can be carried out
+pub servable_kind : (shape : ShapeData) (v : VcpuData) → IsServable shape v → AwaitsMemory v
+servable_kind shape v is access pending =
     pending_kind access.place access.instr (at_some (λ a. IsPending a.place a.instr) v.pending access pending is.pending)
 
 -- what holds of each vCPU holds of the one with a number
@@ -62,9 +62,9 @@ pub All-slice_get : {X : Type 0} (P : X → Type 0) (xs : List X) (k : ℕ) (x :
 All-slice_get P xs k x all stood =
     subst P (get_or_from_slice_get xs k x x stood) (All-get_or P xs k x (slice_get_within xs k x stood) all)
 
--- and in a machine within the limits
-pub machine_kind : (m : MachineData) → IsMachine m → AwaitMemory m
-machine_kind m is k v stood = vcpu_kind v (All-slice_get IsVcpu m.vcpus k v is.each stood)
+-- and in a machine whose accesses all can be
+pub serves_kind : (m : MachineData) → ServesAll m → AwaitMemory m
+serves_kind m serves k v stood = servable_kind m.shape v (All-slice_get (IsServable m.shape) m.vcpus k v serves.each stood)
 
 -- a vCPU runs or is halted
 pub state_cases : (s : State) → (s ≡ Running) ⊎ ((cause : Cause) × (s ≡ Halted cause))
@@ -204,9 +204,9 @@ next_from m k after kind moved =
     ] in
     let at = not_halted m k on in
     elim (next_running m k at.0 at.1 at.2 (kind k at.0 at.1)) [
-      Happens w is from ↦
-        (let e : w ≡ after = same_Some w after (sym is ∙ moved) in
-        record { was = at.0; stood = at.1; ran = at.2; from = subst (EventFrom at.0 m k) e from })
+      | Happens w is from ↦
+          (let e : w ≡ after = same_Some w after (sym is ∙ moved) in
+          record { was = at.0; stood = at.1; ran = at.2; from = subst (EventFrom at.0 m k) e from })
     ]
 
 -- what the event makes of its vCPU
@@ -261,13 +261,13 @@ next_kind m k after kind moved j v stood =
       | inr other ↦ kind j v (sym (next_others m k after j kind moved other) ∙ stood)
     ]
 
--- ---- The same of a machine within the limits
+-- ---- The same of a machine whose accesses all can be carried out
 
-pub machine_next-none : (m : MachineData) (k : ℕ) → IsMachine m → (next m k ≡ None) ↔ (halted_at m k ≡ true)
-machine_next-none m k is = next-none m k (machine_kind m is)
+pub served_next-none : (m : MachineData) (k : ℕ) → ServesAll m → (next m k ≡ None) ↔ (halted_at m k ≡ true)
+served_next-none m k serves = next-none m k (serves_kind m serves)
 
-pub machine_next_event : (m : MachineData) (k : ℕ) (after : MachineData) → IsMachine m → next m k ≡ Some after → HasEvent m k after
-machine_next_event m k after is moved = next_event m k after (machine_kind m is) moved
+pub served_next_event : (m : MachineData) (k : ℕ) (after : MachineData) → ServesAll m → next m k ≡ Some after → HasEvent m k after
+served_next_event m k after serves moved = next_event m k after (serves_kind m serves) moved
 
 -- the law of what comes of an event
-pub ruleset outcome_laws = (machine_next-none, machine_next_event)
+pub ruleset outcome_laws = (served_next-none, served_next_event)

@@ -123,9 +123,9 @@ pub phase_pending : (i : MachineData) (n : ℕ) (o : List ℕ) (last : MachineDa
     run i o ≡ Some last → All (λ v. v.pending ≡ None) last.vcpus
 phase_pending i n o last rest count phase ran =
     λ k d h.
-      (let at = come_at i n o (length o) last rest phase (omega arith) (ap (run i) (take_all (length o) o (omega arith)) ∙ ran) in
-      let v = get_or last.vcpus k d in
-      let stood : slice_get last.vcpus k ≡ Some v = slice_get-get_or last.vcpus k d h in
-      let same : phase.last ≡ last = same_Some phase.last last (sym phase.ran ∙ ran) in
-      let over : has_ended i n last k ≡ true = ap (λ m. has_ended i n m k) (sym same) ∙ phase.ended k (omega (arith, at.1)) in
-      ended_pending (steps_of i k + n) v (at.0 k v stood) (sym (has_ended-is i n last k v stood) ∙ over))
+    (let at = come_at i n o (length o) last rest phase (omega arith) (ap (run i) (take_all (length o) o (omega arith)) ∙ ran) in
+    let v = get_or last.vcpus k d in
+    let stood : slice_get last.vcpus k ≡ Some v = slice_get-get_or last.vcpus k d h in
+    let same : phase.last ≡ last = same_Some phase.last last (sym phase.ran ∙ ran) in
+    let over : has_ended i n last k ≡ true = ap (λ m. has_ended i n m k) (sym same) ∙ phase.ended k (omega (arith, at.1)) in
+    ended_pending (steps_of i k + n) v (at.0 k v stood) (sym (has_ended-is i n last k v stood) ∙ over))

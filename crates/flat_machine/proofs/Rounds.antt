@@ -108,9 +108,9 @@ turned_on i n p k way still =
     subst (λ (r : Option MachineData). Turned i n p (with_event p k r) k (k + 1)) (sym g.1) (record {
       way = goes_on i n p k g.0 way still g.1;
       less = λ j low high.
-        (let here : k ≡ j = omega arith in
-        let P : ℕ → Type 0 = λ x. left_at i n g.0 x ≤ left_at i n p.machine x - 1 in
-        subst P here (omega (arith, m.less)));
+          (let here : k ≡ j = omega arith in
+          let P : ℕ → Type 0 = λ x. left_at i n g.0 x ≤ left_at i n p.machine x - 1 in
+          subst P here (omega (arith, m.less)));
       most = λ j. elim (cases_eq j k) as (λ _. left_at i n g.0 j ≤ left_at i n p.machine j) [
         | inl here ↦
             (let P : ℕ → Type 0 = λ x. left_at i n g.0 x ≤ left_at i n p.machine x in
@@ -125,9 +125,9 @@ turned_by : (i : MachineData) (n : ℕ) (p : Progress) (k : ℕ) (over : Bool) �
 turned_by i n p k true way is = record {
   way = way;
   less = λ j low high.
-    (let here : k ≡ j = omega arith in
-    let P : ℕ → Type 0 = λ x. left_at i n p.machine x ≤ left_at i n p.machine x - 1 in
-    subst P here (omega (arith, ended_left_at i n p.machine k is)));
+      (let here : k ≡ j = omega arith in
+      let P : ℕ → Type 0 = λ x. left_at i n p.machine x ≤ left_at i n p.machine x - 1 in
+      subst P here (omega (arith, ended_left_at i n p.machine k is)));
   most = λ j. omega arith;
 }
 turned_by i n p k false way is = turned_on i n p k way is

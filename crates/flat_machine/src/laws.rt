@@ -6,7 +6,7 @@ ghost use Rattle.rv64i_step.specs.Vcpu.{VcpuData};
 ghost use Rattle.rv64i_step.specs.declared.request.Request.{Request};
 ghost use Rattle.rv64i_step.specs.declared.request.Request.TheVariants.{NoFetch};
 ghost use Rattle.flat_machine.specs.Cell.{CellName, Content, content, with_content};
-ghost use Rattle.flat_machine.specs.Laws.{AgreesAt, HasEvent, IsContentOf, KeepsRest, MakesTheSame};
+ghost use Rattle.flat_machine.specs.Laws.{AgreesAt, HasEvent, IsContentOf, KeepsRest, KeepsSizes, MakesTheSame, ServesAll};
 ghost use Rattle.flat_machine.specs.Machine.{IsMachine, MachineData, Rest};
 ghost use Rattle.flat_machine.specs.Next.{cell_of, next, touched_by, with_vcpu};
 ghost use Rattle.flat_machine.specs.Run.{Phase, halted_at, rounds, rounds_run, run, run_on, steps_of};
@@ -39,16 +39,25 @@ pub fn a_cell_holds_what_was_written_to_it()
 /// it makes of its vCPU and of that page or device depends on these two, the shape and the clock alone.
 #[tactic(auto, using(crate::proofs::Frames::next_depends))]
 pub fn an_event_leaves_the_rest()
-    ensures keeps { (m : MachineData) (k : ℕ) (after : MachineData) → IsMachine m → next m k ≡ Some after → KeepsRest m k after }
-    ensures depends { (m : MachineData) (other : MachineData) (k : ℕ) (after : MachineData) → IsMachine m → IsMachine other → AgreesAt m other k → next m k ≡ Some after → MakesTheSame m k after other }
+    ensures keeps { (m : MachineData) (k : ℕ) (after : MachineData) → ServesAll m → next m k ≡ Some after → KeepsRest m k after }
+    ensures run { (m : MachineData) (o : List ℕ) (after : MachineData) → ServesAll m → run m o ≡ Some after → KeepsSizes m o after }
+    ensures depends { (m : MachineData) (other : MachineData) (k : ℕ) (after : MachineData) → ServesAll m → ServesAll other → AgreesAt m other k → next m k ≡ Some after → MakesTheSame m k after other }
+{}
+
+/// What the laws of an event need of a machine: each within the limits has it, and each event and run keeps it.
+#[tactic(auto, using(crate::proofs::Servable::machine_serves))]
+pub fn an_event_keeps_what_its_laws_need()
+    ensures machine { (m : MachineData) → IsMachine m → ServesAll m }
+    ensures next { (m : MachineData) (k : ℕ) (after : MachineData) → ServesAll m → next m k ≡ Some after → ServesAll after }
+    ensures run { (m : MachineData) (o : List ℕ) (after : MachineData) → ServesAll m → run m o ≡ Some after → ServesAll after }
 {}
 
 /// The law of what comes of an event: there is none exactly where the vCPU is halted, and an event makes its vCPU into
 /// one that is halted where it stood, or awaits an access, or has finished an instruction.
 #[tactic(auto, using(crate::proofs::Outcomes::outcome_laws))]
 pub fn an_event_halts_or_awaits_or_finishes()
-    ensures none { (m : MachineData) (k : ℕ) → IsMachine m → (next m k ≡ None) ↔ (halted_at m k ≡ true) }
-    ensures event { (m : MachineData) (k : ℕ) (after : MachineData) → IsMachine m → next m k ≡ Some after → HasEvent m k after }
+    ensures none { (m : MachineData) (k : ℕ) → ServesAll m → (next m k ≡ None) ↔ (halted_at m k ≡ true) }
+    ensures event { (m : MachineData) (k : ℕ) (after : MachineData) → ServesAll m → next m k ≡ Some after → HasEvent m k after }
 {}
 
 /// The law of rounds: from a machine at rest they are a phase, and the machine that they leave is that of their run.
