@@ -1,15 +1,15 @@
 -- The frame of an event: what it leaves, and what it depends on.
-use Rattle.std.proofs.Common.{◌≡◌, ◌≢◌, ◌⊎◌, inl, inr, ℕ, ◌+◌, ◌<◌, List, length, slice_set, Option, Some, None, refl, sym, ◌∙◌, ap, subst, arith}
+use Rattle.std.proofs.Common.{◌≡◌, inl, inr, ℕ, ◌+◌, length, slice_set, Some, None, refl, sym, ◌∙◌, ap, subst}
 use Rattle.std.specs.List.{slice_get}
 use Rattle.std.proofs.lemmas.List.{length-set}
 use Rattle.std.proofs.lemmas.Option.{same_Some, none-some, slice_get_within}
-use Rattle.ram_block.specs.Shape.{ShapeData, ram_bytes_of}
+use Rattle.ram_block.specs.Shape.{ram_bytes_of}
 use Rattle.ram_block.specs.declared.cause.Cause.{Cause}
 use Rattle.rv64i_step.specs.Event.{request_of, fetched_vcpu}
 use Rattle.rv64i_step.specs.Vcpu.{VcpuData}
 use Rattle.rv64i_step.specs.declared.request.Request.{Request}
 use Rattle.rv64i_step.specs.declared.request.Request.TheVariants.{Nothing, NoFetch, Fetch, Load, Store, Amo}
-use Rattle.flat_machine.specs.Cell.{CellName, PageCell, SerialCell, TimerCell, Content, cell_at, content, content_after, gives, with_content}
+use Rattle.flat_machine.specs.Cell.{CellName, PageCell, SerialCell, TimerCell, cell_at, content, content_after, gives, with_content}
 use Rattle.flat_machine.specs.Laws.{ServesAll, IsContentOf, KeepsRest, AgreesAt, MakesTheSame, touched_of, touched}
 use Rattle.flat_machine.specs.Machine.{MachineData}
 use Rattle.flat_machine.specs.Next.{cell_of, vcpu_after, with_vcpu, touched_by, event_with, next}

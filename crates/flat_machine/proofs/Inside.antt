@@ -1,6 +1,5 @@
 -- What an event writes to a cell is a content of that cell: a whole page stays one, and the page is in RAM.
-use Rattle.std.proofs.Common.{◌≡◌, ◌⊎◌, inl, inr, ℕ, ◌+◌, ◌-◌, ◌*◌, ◌<◌, ◌≤◌, Bool, true, false, List, [], ◌∷◌, ◌++◌, length, take, drop, get_or, All, Option, Some, None, Result, Ok, Err, refl, sym, ◌∙◌, ap, subst, arith, length-append}
-use Rattle.std.specs.Int.{w16, w32, w64, to_le_bytes}
+use Rattle.std.proofs.Common.{◌≡◌, ℕ, ◌+◌, ◌*◌, ◌<◌, ◌≤◌, List, ◌++◌, length, take, drop, Option, Some, None, Result, Ok, Err, refl, subst, arith, length-append}
 use Rattle.std.specs.List.{slice_get}
 use Rattle.std.specs.Option.{IfSome}
 use Rattle.std.specs.Result.{IfOk}
@@ -12,14 +11,13 @@ use Rattle.ram_block.specs.declared.cause.Cause.{Cause}
 use Rattle.ram_block.specs.declared.page_buf.TheConstants.{PAGE}
 use Rattle.ram_block.specs.declared.place.Place.{Place}
 use Rattle.ram_block.specs.declared.place.Place.TheVariants as places
-use Rattle.ram_block.specs.declared.place.Way.{Way}
 use Rattle.ram_block.specs.declared.place.Way.TheVariants as ways
 use Rattle.ram_block.specs.declared.place.Width.{Width}
 use Rattle.ram_block.specs.declared.place.Width.TheVariants.{One, Two, Four, Eight}
 use Rattle.ram_block.proofs.Addresses.{located_access}
 use Rattle.rv64i_decode.specs.declared.instr.Instr.{Instr}
 use Rattle.rv64i_decode.specs.declared.instr.Instr.TheVariants as instrs
-use Rattle.rv64i_step.specs.Access.{load_width, store_width, amo_width, CanAccess}
+use Rattle.rv64i_step.specs.Access.{CanAccess}
 use Rattle.rv64i_step.specs.Event.{request_of, request_in, running_request, fetch_at, access_of}
 use Rattle.rv64i_step.specs.Vcpu.{VcpuData, IsPlaced, IsPending, HasPage}
 use Rattle.rv64i_step.specs.declared.access.Access.{Access}
@@ -27,13 +25,13 @@ use Rattle.rv64i_step.specs.declared.request.Request.{Request}
 use Rattle.rv64i_step.specs.declared.request.Request.TheVariants.{Nothing, NoFetch, Fetch, Load, Store, Amo}
 use Rattle.rv64i_step.specs.declared.state.State.{State}
 use Rattle.rv64i_step.specs.declared.state.State.TheVariants.{Running, Halted}
-use Rattle.flat_machine.specs.Cell.{CellName, PageCell, SerialCell, TimerCell, Content, Page, Serial, Timer, cell_at, content, content_after, page_after}
+use Rattle.flat_machine.specs.Cell.{CellName, PageCell, SerialCell, TimerCell, cell_at, content, content_after, page_after}
 use Rattle.flat_machine.specs.Laws.{IsContentOf, IsServable, ServesAll}
 use Rattle.flat_machine.specs.Machine.{MachineData, page_of}
 use Rattle.flat_machine.specs.Next.{cell_of}
-use Rattle.flat_machine.specs.Page.{bytes_of, with_bytes, with_number, page_at}
+use Rattle.flat_machine.specs.Page.{bytes_of, with_number, page_at}
 use Rattle.flat_machine.proofs.Cells.{page_within}
-use Rattle.flat_machine.proofs.Outcomes.{at_some, All-slice_get}
+use Rattle.flat_machine.proofs.Outcomes.{All-slice_get}
 
 -- ---- Writes within a page
 

@@ -1,7 +1,7 @@
 -- What comes of one event: when there is one, and what it makes of its vCPU.
-use Rattle.std.proofs.Common.{◌≡◌, ◌≢◌, ◌⊎◌, inl, inr, ◌↔◌, ℕ, ◌+◌, ◌<◌, Bool, true, false, List, length, All, get_or, slice_set, Option, Some, None, refl, sym, ◌∙◌, ap, subst, arith}
+use Rattle.std.proofs.Common.{◌≡◌, ◌≢◌, ◌⊎◌, inl, inr, ◌↔◌, ℕ, true, false, List, length, All, slice_set, Option, Some, None, refl, sym, ◌∙◌, ap, subst}
 use Rattle.std.specs.List.{slice_get}
-use Rattle.std.specs.Option.{IfSome, IsSome, is_some, option_map_or}
+use Rattle.std.specs.Option.{IfSome, is_some, option_map_or}
 use Rattle.std.proofs.lemmas.Bool.{false≢true, true≢false, cases_Bool, cases_eq}
 use Rattle.std.proofs.lemmas.Option.{same_Some, none-some, slice_get_within, get_or_from_slice_get}
 use Rattle.std.proofs.lemmas.List.{length-set}
@@ -17,7 +17,7 @@ use Rattle.std.proofs.Common.{Result, Ok, Err}
 use Rattle.rv64i_decode.specs.declared.instr.Instr.{Instr}
 use Rattle.rv64i_decode.specs.declared.instr.Instr.TheVariants as instrs
 use Rattle.rv64i_step.specs.Event.{request_of, request_in, running_request, fetch_at, access_of, fetched_vcpu, accessed_vcpu}
-use Rattle.rv64i_step.specs.Outcome.{AccessesMemory, FetchOutcome, Finishes, HaltsWith, Halting, Awaiting, Finishing}
+use Rattle.rv64i_step.specs.Outcome.{AccessesMemory, FetchOutcome, Halting, Awaiting, Finishing}
 use Rattle.rv64i_step.specs.Vcpu.{VcpuData, IsPending}
 use Rattle.rv64i_step.specs.declared.access.Access.{Access}
 use Rattle.rv64i_step.specs.declared.request.Request.{Request}
@@ -25,10 +25,10 @@ use Rattle.rv64i_step.specs.declared.request.Request.TheVariants as requests
 use Rattle.rv64i_step.specs.declared.state.State.{State}
 use Rattle.rv64i_step.specs.declared.state.State.TheVariants.{Running, Halted}
 use Rattle.rv64i_step.proofs.Outcomes.{fetch_outcome, no_fetch_outcome, access_outcome}
-use Rattle.flat_machine.specs.Cell.{CellName, PageCell, cell_at, Content, content, content_after, gives, with_content}
+use Rattle.flat_machine.specs.Cell.{CellName, PageCell, cell_at, content, content_after, gives}
 use Rattle.flat_machine.specs.Laws.{IsServable, ServesAll, EventOutcome, OfFetch, OfAccess, HasEvent}
 use Rattle.flat_machine.specs.Machine.{MachineData}
-use Rattle.flat_machine.specs.Next.{vcpu_after, with_vcpu, touched_by, event_with, event_of, next}
+use Rattle.flat_machine.specs.Next.{vcpu_after, with_vcpu, touched_by, event_with, next}
 use Rattle.flat_machine.specs.Run.{is_halted, halted_at}
 use Rattle.flat_machine.proofs.Cells.{cell_write}
 use Rattle.flat_machine.proofs.Events.{slice_get-set_same, slice_get-set_other, next_with, next_past}

@@ -1,19 +1,17 @@
 -- An order that is a phase from a machine at rest: what stands after each of its events, and at its end.
-use Rattle.std.proofs.Common.{◌≡◌, ◌≢◌, ◌⊎◌, inl, inr, ℕ, zero, suc, ◌+◌, ◌-◌, ◌*◌, ◌<◌, ◌≤◌, List, [], ◌∷◌, ◌++◌, length, get_or, take, All, Option, Some, None, refl, sym, ◌∙◌, ap, subst, arith}
+use Rattle.std.proofs.Common.{◌≡◌, ◌≢◌, inl, inr, ℕ, zero, suc, ◌+◌, ◌*◌, ◌<◌, ◌≤◌, List, length, get_or, take, All, Some, None, refl, sym, ◌∙◌, ap, subst, arith}
 use Rattle.std.specs.List.{slice_get}
 use Rattle.std.specs.Option.{option_map_or}
-use Rattle.std.specs.Prelude.{true, false, slice_index}
-use Rattle.std.proofs.lemmas.Bool.{cases_eq, cases_lt}
+use Rattle.std.specs.Prelude.{true, false}
+use Rattle.std.proofs.lemmas.Bool.{cases_eq}
 use Rattle.std.proofs.lemmas.List.{take_all}
 use Rattle.std.proofs.lemmas.Option.{same_Some, slice_get-get_or, slice_get_within}
 use Rattle.std.proofs.Math.Seq.{take-suc}
-use Rattle.rv64i_step.specs.Vcpu.{VcpuData}
 use Rattle.flat_machine.specs.Machine.{MachineData, Rest}
-use Rattle.flat_machine.specs.Next.{next}
 use Rattle.flat_machine.specs.Run.{run_on, run, steps_of, has_ended, IsInPhase, Phase}
 use Rattle.flat_machine.proofs.Runs.{run-push}
 use Rattle.flat_machine.proofs.Outcomes.{option_cases}
-use Rattle.flat_machine.proofs.Phases.{IsOn, AreOn, left_at, has_ended-is, steps_of-is, ended_pending, rest_on, rest_left, IsGoing, going, going_next, Moves, moves}
+use Rattle.flat_machine.proofs.Phases.{AreOn, left_at, has_ended-is, steps_of-is, ended_pending, rest_on, rest_left, going, going_next, moves}
 
 -- ---- The events left to all vCPUs
 

@@ -1,19 +1,18 @@
 -- A phase, event by event: what each vCPU keeps, and how many events it can still make.
-use Rattle.std.proofs.Common.{◌≡◌, ◌≢◌, ◌⊎◌, inl, inr, ℕ, zero, suc, ◌+◌, ◌-◌, ◌*◌, ◌<◌, ◌≤◌, Bool, true, false, ◌||◌, eqb, List, length, get_or, All, Option, Some, None, refl, sym, ◌∙◌, ap, subst, arith}
+use Rattle.std.proofs.Common.{◌≡◌, ◌≢◌, inl, inr, ℕ, ◌+◌, ◌-◌, ◌*◌, ◌<◌, ◌≤◌, true, false, ◌||◌, eqb, length, Option, Some, None, refl, sym, ◌∙◌, ap, subst, arith}
 use Rattle.std.specs.List.{slice_get}
-use Rattle.std.specs.Option.{IsSome, is_some, option_map_or}
-use Rattle.std.proofs.lemmas.Bool.{true≢false, false≢true, cases_Bool, cases_eq, or_cases, eqb-true, eqb-false, eq-eqb}
+use Rattle.std.specs.Option.{is_some, option_map_or}
+use Rattle.std.proofs.lemmas.Bool.{true≢false, false≢true, cases_Bool, cases_eq, or_cases, eqb-true, eqb-false}
 use Rattle.std.proofs.lemmas.Option.{same_Some, none-some}
-use Rattle.ram_block.specs.declared.cause.Cause.{Cause}
 use Rattle.rv64i_step.specs.Outcome.{FetchOutcome, Halting, Awaiting, Finishing}
 use Rattle.rv64i_step.specs.Vcpu.{VcpuData}
 use Rattle.rv64i_step.specs.declared.access.Access.{Access}
 use Rattle.rv64i_step.specs.declared.state.State.{State}
 use Rattle.rv64i_step.specs.declared.state.State.TheVariants.{Running, Halted}
-use Rattle.flat_machine.specs.Laws.{EventOutcome, OfFetch, OfAccess, HasEvent}
+use Rattle.flat_machine.specs.Laws.{EventOutcome, OfFetch, OfAccess}
 use Rattle.flat_machine.specs.Machine.{MachineData, Rest}
 use Rattle.flat_machine.specs.Next.{next}
-use Rattle.flat_machine.specs.Run.{is_halted, halted_at, steps_of, vcpu_ended, ended_at, has_ended}
+use Rattle.flat_machine.specs.Run.{is_halted, steps_of, vcpu_ended, has_ended}
 use Rattle.flat_machine.proofs.Outcomes.{AwaitsMemory, AwaitMemory, none_awaits, outcome_kind, option_cases, All-slice_get, next_event, next_others, next_count, next_on, halted_at-is}
 
 -- ---- One vCPU

@@ -1,10 +1,10 @@
 -- Rounds are a phase: each round takes from every vCPU whose phase has not ended one of the events that are left to it.
-use Rattle.std.proofs.Common.{◌≡◌, ◌≢◌, ◌⊎◌, inl, inr, ℕ, zero, suc, ◌+◌, ◌-◌, ◌*◌, ◌<◌, ◌≤◌, Bool, true, false, List, [], ◌∷◌, ◌++◌, length, get_or, take, map, Option, Some, None, refl, sym, ◌∙◌, ap, subst, arith, zero-add, length-append}
+use Rattle.std.proofs.Common.{◌≡◌, inl, inr, ℕ, zero, suc, ◌+◌, ◌-◌, ◌*◌, ◌<◌, ◌≤◌, Bool, true, false, List, [], ◌∷◌, ◌++◌, length, get_or, map, Option, Some, refl, sym, ◌∙◌, ap, subst, arith, zero-add, length-append}
 use Rattle.std.specs.Prelude.{if◌then◌else◌, slice_index}
 use Rattle.std.specs.List.{slice_get, range_with_len}
 use Rattle.std.specs.Option.{option_map_or}
-use Rattle.std.proofs.lemmas.Bool.{cases_eq, cases_lt, cases_Bool}
-use Rattle.std.proofs.lemmas.List.{take_all, take-append-le, get_or_append_left, length-map}
+use Rattle.std.proofs.lemmas.Bool.{cases_eq, cases_lt}
+use Rattle.std.proofs.lemmas.List.{take_all, get_or_append_left, length-map}
 use Rattle.std.proofs.Math.Seq.{get_or-append_seam}
 use Rattle.rv64i_step.specs.Vcpu.{VcpuData}
 use Rattle.flat_machine.specs.Machine.{MachineData, Rest}
@@ -12,7 +12,7 @@ use Rattle.flat_machine.specs.Next.{next}
 use Rattle.flat_machine.specs.Run.{run_on, run, steps_of, vcpu_ended, ended_at, has_ended, ends_of, Progress, with_event, turn, turns, round, rounds_on, rounds_run, rounds, IsInPhase, Phase}
 use Rattle.flat_machine.proofs.Runs.{run-push, take-push}
 use Rattle.flat_machine.proofs.Outcomes.{option_cases}
-use Rattle.flat_machine.proofs.Phases.{IsOn, AreOn, left_at, left_at-is, has_ended-is, ended_left, none_left, rest_on, rest_left, going_next, Moves, moves, left_of}
+use Rattle.flat_machine.proofs.Phases.{AreOn, left_at, left_at-is, has_ended-is, ended_left, none_left, rest_on, rest_left, going_next, moves, left_of}
 
 -- the order so far is one of a phase that goes on
 pub record IsUnderWay (i : MachineData) (n : ℕ) (p : Progress) : Type 0 where

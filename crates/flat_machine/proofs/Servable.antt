@@ -1,7 +1,6 @@
 -- What the laws of an event need of a machine stays: after an event each pending access can be carried out as before.
-use Rattle.std.proofs.Common.{◌≡◌, ◌⊎◌, inl, inr, ℕ, ◌+◌, ◌%◌, Bool, true, false, List, [], ◌∷◌, length, slice_set, All, Option, Some, None, Result, Ok, Err, refl, sym, ◌∙◌, ap, subst, arith}
+use Rattle.std.proofs.Common.{◌≡◌, inl, inr, ℕ, ◌%◌, Bool, true, false, List, [], ◌∷◌, slice_set, All, Option, Some, None, Result, Ok, Err, refl, sym, ◌∙◌, ap, subst, arith}
 use Rattle.std.specs.Prelude.{if◌then◌else◌, ◌==◌}
-use Rattle.std.specs.List.{slice_get}
 use Rattle.std.specs.Option.{IfSome}
 use Rattle.std.specs.Result.{IfOk}
 use Rattle.std.proofs.lemmas.List.Elements.{All-set}
@@ -28,13 +27,13 @@ use Rattle.rv64i_step.specs.declared.request.Request.{Request}
 use Rattle.rv64i_step.specs.declared.request.Request.TheVariants.{NoFetch, Fetch}
 use Rattle.rv64i_step.proofs.Accesses.{can_access, has_page}
 use Rattle.rv64i_step.proofs.Outcomes.{access_outcome}
-use Rattle.flat_machine.specs.Cell.{CellName, content, content_after, gives}
-use Rattle.flat_machine.specs.Laws.{IsServable, ServesAll, KeepsRest, KeepsSizes}
+use Rattle.flat_machine.specs.Cell.{content, content_after, gives}
+use Rattle.flat_machine.specs.Laws.{IsServable, ServesAll, KeepsSizes}
 use Rattle.flat_machine.specs.Machine.{MachineData, IsMachine}
-use Rattle.flat_machine.specs.Next.{vcpu_after, touched_by, next}
+use Rattle.flat_machine.specs.Next.{vcpu_after, next}
 use Rattle.flat_machine.specs.Run.{run_on, run}
 use Rattle.flat_machine.proofs.Cells.{cell_write}
-use Rattle.flat_machine.proofs.Frames.{EventCase, Touching, Alone, event_case, next_keeps}
+use Rattle.flat_machine.proofs.Frames.{Touching, Alone, event_case, next_keeps}
 use Rattle.flat_machine.proofs.Outcomes.{option_cases, All-slice_get, servable_kind}
 
 -- it depends on what is pending alone
