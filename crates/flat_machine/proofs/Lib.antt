@@ -11,3 +11,4 @@ pub mod PhaseEnds
 pub mod Inside
 pub mod Frames
 pub mod Servable
+pub mod UnderWay

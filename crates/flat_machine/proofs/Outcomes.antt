@@ -18,7 +18,7 @@ use Rattle.rv64i_decode.specs.declared.instr.Instr.{Instr}
 use Rattle.rv64i_decode.specs.declared.instr.Instr.TheVariants as instrs
 use Rattle.rv64i_step.specs.Event.{request_of, request_in, running_request, fetch_at, access_of, fetched_vcpu, accessed_vcpu}
 use Rattle.rv64i_step.specs.Outcome.{AccessesMemory, FetchOutcome, Halting, Awaiting, Finishing}
-use Rattle.rv64i_step.specs.Vcpu.{VcpuData, IsPending}
+use Rattle.rv64i_step.specs.Vcpu.{VcpuData, IsVcpu, IsPending}
 use Rattle.rv64i_step.specs.declared.access.Access.{Access}
 use Rattle.rv64i_step.specs.declared.request.Request.{Request}
 use Rattle.rv64i_step.specs.declared.request.Request.TheVariants as requests
@@ -61,6 +61,11 @@ servable_kind shape v is access pending =
 pub All-slice_get : {X : Type 0} (P : X → Type 0) (xs : List X) (k : ℕ) (x : X) → All P xs → slice_get xs k ≡ Some x → P x
 All-slice_get P xs k x all stood =
     subst P (get_or_from_slice_get xs k x x stood) (All-get_or P xs k x (slice_get_within xs k x stood) all)
+
+-- and in a vCPU within the limits
+pub vcpu_kind : (v : VcpuData) → IsVcpu v → AwaitsMemory v
+vcpu_kind v is access pending =
+    pending_kind access.place access.instr (at_some (λ a. IsPending a.place a.instr) v.pending access pending is.pending)
 
 -- and in a machine whose accesses all can be
 pub serves_kind : (m : MachineData) → ServesAll m → AwaitMemory m

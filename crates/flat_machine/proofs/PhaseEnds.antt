@@ -11,7 +11,7 @@ use Rattle.flat_machine.specs.Machine.{MachineData, Rest}
 use Rattle.flat_machine.specs.Run.{run_on, run, steps_of, has_ended, IsInPhase, Phase}
 use Rattle.flat_machine.proofs.Runs.{run-push}
 use Rattle.flat_machine.proofs.Outcomes.{option_cases}
-use Rattle.flat_machine.proofs.Phases.{AreOn, left_at, has_ended-is, steps_of-is, ended_pending, rest_on, rest_left, going, going_next, moves}
+use Rattle.flat_machine.proofs.Phases.{AreOn, left_at, has_ended-is, steps_at_most, ended_pending, rest_on, rest_left, going, going_next, moves}
 
 -- ---- The events left to all vCPUs
 
@@ -101,12 +101,7 @@ come_at i n o t m rest phase h ran =
 -- in a phase a vCPU finishes at most so many instructions
 pub phase_steps : (i : MachineData) (n : ℕ) (o : List ℕ) (t : ℕ) (m : MachineData) (k : ℕ) → Rest i → Phase i n o → t ≤ length o →
     run i (take t o) ≡ Some m → steps_of m k ≤ steps_of i k + n
-phase_steps i n o t m k rest phase h ran =
-    elim (option_cases (slice_get m.vcpus k)) as (λ _. steps_of m k ≤ steps_of i k + n) [
-      | inl none ↦ (let gone : steps_of m k ≡ 0 = ap (λ p. option_map_or (λ w. w.steps) p 0) none in omega (arith, gone))
-      | inr (v, stood) ↦
-          omega (arith, steps_of-is m k v stood, ((come_at i n o t m rest phase h ran).0 k v stood).steps)
-    ]
+phase_steps i n o t m k rest phase h ran = steps_at_most i n m k (come_at i n o t m rest phase h ran).0
 
 -- and has at most two events for each
 pub phase_length : (i : MachineData) (n : ℕ) (o : List ℕ) → Rest i → length i.vcpus ≡ i.shape.vcpus → Phase i n o →

@@ -161,6 +161,14 @@ pub has_ended-is : (i : MachineData) (n : ℕ) (m : MachineData) (k : ℕ) (v : 
 unfolding has_ended
 has_ended-is i n m k v stood = ap (λ o. option_map_or (vcpu_ended (steps_of i k + n)) o true) stood
 
+-- so none has finished more instructions than the phase has
+pub steps_at_most : (i : MachineData) (n : ℕ) (m : MachineData) (k : ℕ) → AreOn i n m → steps_of m k ≤ steps_of i k + n
+steps_at_most i n m k on =
+    elim (option_cases (slice_get m.vcpus k)) as (λ _. steps_of m k ≤ steps_of i k + n) [
+      | inl none ↦ (let gone : steps_of m k ≡ 0 = ap (λ o. option_map_or (λ w. w.steps) o 0) none in omega (arith, gone))
+      | inr (v, stood) ↦ omega (arith, steps_of-is m k v stood, (on k v stood).steps)
+    ]
+
 -- it is so at rest
 pub rest_on : (i : MachineData) (n : ℕ) → Rest i → AreOn i n i
 rest_on i n rest k v stood =

@@ -22,7 +22,7 @@ pub record IsUnderWay (i : MachineData) (n : ℕ) (p : Progress) : Type 0 where
   pub count : length p.machine.vcpus ≡ length i.vcpus
 
 -- so it is before the first event
-begins : (i : MachineData) (n : ℕ) → Rest i → IsUnderWay i n (record { machine = i; order = [] })
+pub begins : (i : MachineData) (n : ℕ) → Rest i → IsUnderWay i n (record { machine = i; order = [] })
 unfolding run_on
 begins i n rest = record { ran = refl; each = λ t h. absurd (omega arith); on = rest_on i n rest; count = refl }
 
@@ -44,7 +44,7 @@ in_phase-last i n o k m ran still = record {
 }
 
 -- a phase that goes on, with an event more
-goes_on : (i : MachineData) (n : ℕ) (p : Progress) (k : ℕ) (after : MachineData) → IsUnderWay i n p → has_ended i n p.machine k ≡ false →
+pub goes_on : (i : MachineData) (n : ℕ) (p : Progress) (k : ℕ) (after : MachineData) → IsUnderWay i n p → has_ended i n p.machine k ≡ false →
     next p.machine k ≡ Some after → IsUnderWay i n (record { machine = after; order = p.order ++ k ∷ [] })
 goes_on i n p k after way still moved =
     let m = moves i n p.machine k after way.on still moved in
@@ -94,10 +94,10 @@ none_left_at i n m k on none =
     ]
 
 -- some turns leave no vCPU with more events, and those of these numbers with one less
-record Turned (i : MachineData) (n : ℕ) (p q : Progress) (from to : ℕ) : Type 0 where
-  way : IsUnderWay i n q
-  less : (j : ℕ) → from ≤ j → j < to → left_at i n q.machine j ≤ left_at i n p.machine j - 1
-  most : (j : ℕ) → left_at i n q.machine j ≤ left_at i n p.machine j
+pub record Turned (i : MachineData) (n : ℕ) (p q : Progress) (from to : ℕ) : Type 0 where
+  pub way : IsUnderWay i n q
+  pub less : (j : ℕ) → from ≤ j → j < to → left_at i n q.machine j ≤ left_at i n p.machine j - 1
+  pub most : (j : ℕ) → left_at i n q.machine j ≤ left_at i n p.machine j
 
 -- the turn of a vCPU whose phase has not ended
 turned_on : (i : MachineData) (n : ℕ) (p : Progress) (k : ℕ) → IsUnderWay i n p → has_ended i n p.machine k ≡ false →
@@ -132,7 +132,7 @@ turned_by i n p k true way is = record {
 }
 turned_by i n p k false way is = turned_on i n p k way is
 
-turned : (i : MachineData) (n : ℕ) (p : Progress) (k : ℕ) → k < length i.vcpus → IsUnderWay i n p →
+pub turned : (i : MachineData) (n : ℕ) (p : Progress) (k : ℕ) → k < length i.vcpus → IsUnderWay i n p →
     Turned i n p (turn (ends_of i n) p k) k (k + 1)
 unfolding turn
 turned i n p k h way =
