@@ -18,6 +18,7 @@ pub record IsCellWrite (m after : MachineData) : Type 0 where
   pub vcpus : after.vcpus ≡ m.vcpus
   pub clock : after.clock ≡ m.clock
 
+-- it is so for each cell and content
 pub cell_write : (m : MachineData) (c : CellName) (x : Content) → IsCellWrite m (with_content m c x)
 cell_write m (PageCell p) (Page bytes) = record { shape = refl; vcpus = refl; clock = refl }
 cell_write m SerialCell (Serial s) = record { shape = refl; vcpus = refl; clock = refl }

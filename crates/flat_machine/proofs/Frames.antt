@@ -43,6 +43,7 @@ case_of m k v (Amo place width op value) after stood asks moved =
     let r = Amo place width op value in
     Touching v r (cell_at place) stood asks refl (sym (same_Some (touched_by m k v r (cell_at place)) after moved))
 
+-- each event is one of the two
 pub event_case : (m : MachineData) (k : ℕ) (after : MachineData) → next m k ≡ Some after → EventCase m k after
 event_case m k after moved =
     elim (option_cases (slice_get m.vcpus k)) as (λ _. EventCase m k after) [
@@ -144,6 +145,7 @@ touched_same m other k v r c is is_other agrees stood asks touches =
           (touched_content other k v r c is_other.ram of_other ∙ ap (content_after r) held ∙ sym (touched_content m k v r c is.ram of)));
     }
 
+-- so do they where the event touches no cell
 alone_same : (m other : MachineData) (k : ℕ) (v : VcpuData) (cause : Cause) → AgreesAt m other k → slice_get m.vcpus k ≡ Some v →
     request_of m.shape v ≡ NoFetch cause → MakesTheSame m k (with_vcpu m k (fetched_vcpu m.shape v None)) other
 alone_same m other k v cause agrees stood asks =

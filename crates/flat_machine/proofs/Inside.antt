@@ -94,6 +94,7 @@ running_inside : (shape : ShapeData) (v : VcpuData) (p : Option Access) → IfSo
 running_inside shape v None pending placed = fetch_inside shape (located shape v.pc Four ways.Fetch) (located_access shape v.pc Four ways.Fetch)
 running_inside shape v (Some access) pending placed = access_inside shape v access.place access.instr pending placed
 
+-- one that is halted asks for nothing
 request_inside_in : (shape : ShapeData) (s : State) (r : Request) → IsInside shape r → IsInside shape (request_in s r)
 request_inside_in shape Running r is = is
 request_inside_in shape (Halted cause) r is = tt

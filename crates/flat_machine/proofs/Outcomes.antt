@@ -182,6 +182,7 @@ halted_none m k off =
       | inr (v, stood) ↦ next_halted m k v stood (sym (halted_at-is m k v stood) ∙ off)
     ]
 
+-- where there is no next event, the vCPU is halted
 none_halted : (m : MachineData) (k : ℕ) → AwaitMemory m → next m k ≡ None → halted_at m k ≡ true
 none_halted m k kind none =
     elim (cases_Bool (halted_at m k)) as (λ _. halted_at m k ≡ true) [
@@ -200,6 +201,7 @@ pub record NextFrom (m : MachineData) (k : ℕ) (after : MachineData) : Type 0 w
   pub ran : was.state ≡ Running
   pub from : EventFrom was m k after
 
+-- an event that happens has that
 pub next_from : (m : MachineData) (k : ℕ) (after : MachineData) → AwaitMemory m → next m k ≡ Some after → NextFrom m k after
 next_from m k after kind moved =
     let on : halted_at m k ≡ false =
@@ -268,9 +270,11 @@ next_kind m k after kind moved j v stood =
 
 -- ---- The same of a machine whose accesses all can be carried out
 
+-- there is no next event exactly where the vCPU is halted, or is not there
 pub served_next-none : (m : MachineData) (k : ℕ) → ServesAll m → (next m k ≡ None) ↔ (halted_at m k ≡ true)
 served_next-none m k serves = next-none m k (serves_kind m serves)
 
+-- what the event makes of its vCPU
 pub served_next_event : (m : MachineData) (k : ℕ) (after : MachineData) → ServesAll m → next m k ≡ Some after → HasEvent m k after
 served_next_event m k after serves moved = next_event m k after (serves_kind m serves) moved
 

@@ -1,7 +1,6 @@
 -- An order that is a phase from a machine at rest: what stands after each of its events, and at its end.
 use Rattle.std.proofs.Common.{◌≡◌, ◌≢◌, inl, inr, ℕ, zero, suc, ◌+◌, ◌*◌, ◌<◌, ◌≤◌, List, length, get_or, take, All, Some, None, refl, sym, ◌∙◌, ap, subst, arith}
 use Rattle.std.specs.List.{slice_get}
-use Rattle.std.specs.Option.{option_map_or}
 use Rattle.std.specs.Prelude.{true, false}
 use Rattle.std.proofs.lemmas.Bool.{cases_eq}
 use Rattle.std.proofs.lemmas.List.{take_all}
@@ -10,7 +9,6 @@ use Rattle.std.proofs.Math.Seq.{take-suc}
 use Rattle.flat_machine.specs.Machine.{MachineData, Rest}
 use Rattle.flat_machine.specs.Run.{run_on, run, steps_of, has_ended, IsInPhase, Phase}
 use Rattle.flat_machine.proofs.Runs.{run-push}
-use Rattle.flat_machine.proofs.Outcomes.{option_cases}
 use Rattle.flat_machine.proofs.Phases.{AreOn, left_at, has_ended-is, steps_at_most, ended_pending, rest_on, rest_left, going, going_next, moves}
 
 -- ---- The events left to all vCPUs

@@ -132,6 +132,7 @@ turned_by i n p k true way is = record {
 }
 turned_by i n p k false way is = turned_on i n p k way is
 
+-- the turn as it is defined
 pub turned : (i : MachineData) (n : ℕ) (p : Progress) (k : ℕ) → k < length i.vcpus → IsUnderWay i n p →
     Turned i n p (turn (ends_of i n) p k) k (k + 1)
 unfolding turn
@@ -173,6 +174,7 @@ record Rounded (i : MachineData) (n : ℕ) (p q : Progress) (r : ℕ) : Type 0 w
   way : IsUnderWay i n q
   less : (j : ℕ) → j < length i.vcpus → left_at i n q.machine j ≤ left_at i n p.machine j - r
 
+-- each round takes one event from each vCPU to which one is left
 rounds_rounded : (i : MachineData) (n : ℕ) (p : Progress) (r : ℕ) → IsUnderWay i n p → Rounded i n p (rounds_on (ends_of i n) r p) r
 unfolding rounds_on
 rounds_rounded i n p zero way = record { way = way; less = λ j h. omega arith }

@@ -57,6 +57,7 @@ pending-with_reg : (b : Bool) (v w : VcpuData) → w.pending ≡ v.pending → (
 pending-with_reg true v w same = refl
 pending-with_reg false v w same = same
 
+-- an instruction that writes a register
 written : (shape : ShapeData) (v : VcpuData) (rd value pc : ℕ) → IsServable shape v → IsServable shape (finished (with_reg v rd value) pc)
 written shape v rd value pc is = servable_same shape v (finished (with_reg v rd value) pc) (pending-with_reg (rd == 0) v _ refl) is
 
@@ -66,6 +67,7 @@ jumped_by : (b : Bool) (shape : ShapeData) (v linked : VcpuData) (target : ℕ) 
 jumped_by true shape v linked target is same = servable_same shape v (finished linked target) same is
 jumped_by false shape v linked target is same = servable_same shape v (halted v causes.JumpMisaligned) refl is
 
+-- the same, at its target
 jumped : (shape : ShapeData) (v linked : VcpuData) (target : ℕ) → IsServable shape v → linked.pending ≡ v.pending → IsServable shape (jumps v linked target)
 jumped shape v linked target is same = jumped_by (target % 4 == 0) shape v linked target is same
 
@@ -113,6 +115,7 @@ executed_servable shape v (Fence rd rs1 bits) is = servable_same shape v (finish
 executed_servable shape v Ecall is = servable_same shape v (halted v causes.Ecall) refl is
 executed_servable shape v Ebreak is = servable_same shape v (halted v causes.Ebreak) refl is
 
+-- of a word that is an instruction or none
 decoded_servable : (shape : ShapeData) (v : VcpuData) (instr : Option Instr) → IsServable shape v → IsServable shape (decoded shape v instr)
 decoded_servable shape v None is = servable_same shape v (halted v causes.Illegal) refl is
 decoded_servable shape v (Some instr) is = executed_servable shape v instr is

@@ -1,10 +1,8 @@
 -- What a loop over rounds may count on at each event: the run so far, and bounds on its steps, its clock and its length.
-use Rattle.std.proofs.Common.{◌≡◌, ℕ, ◌+◌, ◌*◌, ◌<◌, ◌≤◌, false, List, [], ◌∷◌, ◌++◌, length, Option, Some, None, refl, sym, ◌∙◌, ap, subst, arith, length-append}
-use Rattle.std.proofs.lemmas.List.{take_all}
-use Rattle.flat_machine.specs.Laws.{ServesAll, KeepsSizes}
+use Rattle.std.proofs.Common.{◌≡◌, ℕ, ◌+◌, ◌*◌, ◌<◌, ◌≤◌, false, [], ◌∷◌, ◌++◌, length, arith, length-append}
+use Rattle.flat_machine.specs.Laws.{ServesAll}
 use Rattle.flat_machine.specs.Machine.{MachineData, Rest}
-use Rattle.flat_machine.specs.Next.{next}
-use Rattle.flat_machine.specs.Run.{run, steps_of, has_ended, ends_of, Progress, turn}
+use Rattle.flat_machine.specs.Run.{steps_of, has_ended, ends_of, Progress, turn}
 use Rattle.flat_machine.proofs.Phases.{steps_at_most, going_next}
 use Rattle.flat_machine.proofs.PhaseEnds.{comes}
 use Rattle.flat_machine.proofs.Rounds.{IsUnderWay, goes_on, turned}
