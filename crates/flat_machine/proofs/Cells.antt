@@ -1,6 +1,5 @@
 -- What a machine holds in its cells, when one of them is written.
-use Rattle.std.proofs.Common.{◌≡◌, ◌≢◌, ℕ, ◌+◌, ◌*◌, ◌<◌, ◌≤◌, List, length, refl, sym, ◌∙◌, ap, subst, arith, mul_comm}
-use Rattle.std.proofs.lemmas.Nat.{mul-add-lt}
+use Rattle.std.proofs.Common.{◌≡◌, ◌≢◌, ℕ, ◌+◌, ◌*◌, ◌<◌, ◌≤◌, List, length, refl, sym, ap, arith}
 use Rattle.ram_block.specs.Shape.{ShapeData, ram_bytes_of, total_pages_of}
 use Rattle.ram_block.specs.declared.page_buf.TheConstants.{PAGE}
 use Rattle.serial_timer.specs.Serial.{SerialData}
@@ -19,6 +18,7 @@ pub record IsCellWrite (m after : MachineData) : Type 0 where
   pub vcpus : after.vcpus ≡ m.vcpus
   pub clock : after.clock ≡ m.clock
 
+-- it is so for each cell and content
 pub cell_write : (m : MachineData) (c : CellName) (x : Content) → IsCellWrite m (with_content m c x)
 cell_write m (PageCell p) (Page bytes) = record { shape = refl; vcpus = refl; clock = refl }
 cell_write m SerialCell (Serial s) = record { shape = refl; vcpus = refl; clock = refl }

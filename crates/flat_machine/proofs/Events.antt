@@ -1,7 +1,7 @@
 -- One event: one write to a cell, one to a vCPU, and the clock.
-use Rattle.std.proofs.Common.{◌≡◌, ◌≢◌, ℕ, zero, suc, ◌+◌, ◌<◌, List, [], ◌∷◌, length, slice_set, Option, Some, None, refl, sym, ◌∙◌, ap, subst, arith}
+use Rattle.std.proofs.Common.{◌≡◌, ◌≢◌, ℕ, zero, suc, ◌<◌, List, [], ◌∷◌, length, slice_set, Some, None, refl, ◌∙◌, ap, arith}
 use Rattle.std.specs.List.{slice_get}
-use Rattle.std.proofs.lemmas.Option.{same_Some, none-some, slice_get_within}
+use Rattle.std.proofs.lemmas.Option.{same_Some, none-some}
 use Rattle.ram_block.specs.declared.cause.Cause.{Cause}
 use Rattle.rv64i_step.specs.Event.{request_of, fetched_vcpu}
 use Rattle.rv64i_step.specs.Vcpu.{VcpuData}

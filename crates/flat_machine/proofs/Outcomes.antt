@@ -1,7 +1,7 @@
 -- What comes of one event: when there is one, and what it makes of its vCPU.
-use Rattle.std.proofs.Common.{◌≡◌, ◌≢◌, ◌⊎◌, inl, inr, ◌↔◌, ℕ, ◌+◌, ◌<◌, Bool, true, false, List, length, All, get_or, slice_set, Option, Some, None, refl, sym, ◌∙◌, ap, subst, arith}
+use Rattle.std.proofs.Common.{◌≡◌, ◌≢◌, ◌⊎◌, inl, inr, ◌↔◌, ℕ, true, false, List, length, All, slice_set, Option, Some, None, refl, sym, ◌∙◌, ap, subst}
 use Rattle.std.specs.List.{slice_get}
-use Rattle.std.specs.Option.{IfSome, IsSome, is_some, option_map_or}
+use Rattle.std.specs.Option.{IfSome, is_some, option_map_or}
 use Rattle.std.proofs.lemmas.Bool.{false≢true, true≢false, cases_Bool, cases_eq}
 use Rattle.std.proofs.lemmas.Option.{same_Some, none-some, slice_get_within, get_or_from_slice_get}
 use Rattle.std.proofs.lemmas.List.{length-set}
@@ -17,7 +17,7 @@ use Rattle.std.proofs.Common.{Result, Ok, Err}
 use Rattle.rv64i_decode.specs.declared.instr.Instr.{Instr}
 use Rattle.rv64i_decode.specs.declared.instr.Instr.TheVariants as instrs
 use Rattle.rv64i_step.specs.Event.{request_of, request_in, running_request, fetch_at, access_of, fetched_vcpu, accessed_vcpu}
-use Rattle.rv64i_step.specs.Outcome.{AccessesMemory, FetchOutcome, Finishes, HaltsWith, Halting, Awaiting, Finishing}
+use Rattle.rv64i_step.specs.Outcome.{AccessesMemory, FetchOutcome, Halting, Awaiting, Finishing}
 use Rattle.rv64i_step.specs.Vcpu.{VcpuData, IsVcpu, IsPending}
 use Rattle.rv64i_step.specs.declared.access.Access.{Access}
 use Rattle.rv64i_step.specs.declared.request.Request.{Request}
@@ -25,10 +25,10 @@ use Rattle.rv64i_step.specs.declared.request.Request.TheVariants as requests
 use Rattle.rv64i_step.specs.declared.state.State.{State}
 use Rattle.rv64i_step.specs.declared.state.State.TheVariants.{Running, Halted}
 use Rattle.rv64i_step.proofs.Outcomes.{fetch_outcome, no_fetch_outcome, access_outcome}
-use Rattle.flat_machine.specs.Cell.{CellName, PageCell, cell_at, Content, content, content_after, gives, with_content}
-use Rattle.flat_machine.specs.Laws.{EventOutcome, OfFetch, OfAccess, HasEvent}
-use Rattle.flat_machine.specs.Machine.{MachineData, IsMachine}
-use Rattle.flat_machine.specs.Next.{vcpu_after, with_vcpu, touched_by, event_with, event_of, next}
+use Rattle.flat_machine.specs.Cell.{CellName, PageCell, cell_at, content, content_after, gives}
+use Rattle.flat_machine.specs.Laws.{IsServable, ServesAll, EventOutcome, OfFetch, OfAccess, HasEvent}
+use Rattle.flat_machine.specs.Machine.{MachineData}
+use Rattle.flat_machine.specs.Next.{vcpu_after, with_vcpu, touched_by, event_with, next}
 use Rattle.flat_machine.specs.Run.{is_halted, halted_at}
 use Rattle.flat_machine.proofs.Cells.{cell_write}
 use Rattle.flat_machine.proofs.Events.{slice_get-set_same, slice_get-set_other, next_with, next_past}
@@ -52,9 +52,9 @@ pending_kind place _ is = absurd is
 pub at_some : {X : Type 0} (P : X → Type 0) (o : Option X) (x : X) → o ≡ Some x → IfSome o P → P x
 at_some P o x is all = subst (λ r. IfSome r P) is all
 
--- so it is in a vCPU within the limits
-pub vcpu_kind : (v : VcpuData) → IsVcpu v → AwaitsMemory v
-vcpu_kind v is access pending =
+-- so it is where the access can be carried out
+pub servable_kind : (shape : ShapeData) (v : VcpuData) → IsServable shape v → AwaitsMemory v
+servable_kind shape v is access pending =
     pending_kind access.place access.instr (at_some (λ a. IsPending a.place a.instr) v.pending access pending is.pending)
 
 -- what holds of each vCPU holds of the one with a number
@@ -62,9 +62,14 @@ pub All-slice_get : {X : Type 0} (P : X → Type 0) (xs : List X) (k : ℕ) (x :
 All-slice_get P xs k x all stood =
     subst P (get_or_from_slice_get xs k x x stood) (All-get_or P xs k x (slice_get_within xs k x stood) all)
 
--- and in a machine within the limits
-pub machine_kind : (m : MachineData) → IsMachine m → AwaitMemory m
-machine_kind m is k v stood = vcpu_kind v (All-slice_get IsVcpu m.vcpus k v is.each stood)
+-- and in a vCPU within the limits
+pub vcpu_kind : (v : VcpuData) → IsVcpu v → AwaitsMemory v
+vcpu_kind v is access pending =
+    pending_kind access.place access.instr (at_some (λ a. IsPending a.place a.instr) v.pending access pending is.pending)
+
+-- and in a machine whose accesses all can be
+pub serves_kind : (m : MachineData) → ServesAll m → AwaitMemory m
+serves_kind m serves k v stood = servable_kind m.shape v (All-slice_get (IsServable m.shape) m.vcpus k v serves.each stood)
 
 -- a vCPU runs or is halted
 pub state_cases : (s : State) → (s ≡ Running) ⊎ ((cause : Cause) × (s ≡ Halted cause))
@@ -177,6 +182,7 @@ halted_none m k off =
       | inr (v, stood) ↦ next_halted m k v stood (sym (halted_at-is m k v stood) ∙ off)
     ]
 
+-- where there is no next event, the vCPU is halted
 none_halted : (m : MachineData) (k : ℕ) → AwaitMemory m → next m k ≡ None → halted_at m k ≡ true
 none_halted m k kind none =
     elim (cases_Bool (halted_at m k)) as (λ _. halted_at m k ≡ true) [
@@ -195,6 +201,7 @@ pub record NextFrom (m : MachineData) (k : ℕ) (after : MachineData) : Type 0 w
   pub ran : was.state ≡ Running
   pub from : EventFrom was m k after
 
+-- an event that happens has that
 pub next_from : (m : MachineData) (k : ℕ) (after : MachineData) → AwaitMemory m → next m k ≡ Some after → NextFrom m k after
 next_from m k after kind moved =
     let on : halted_at m k ≡ false =
@@ -261,13 +268,15 @@ next_kind m k after kind moved j v stood =
       | inr other ↦ kind j v (sym (next_others m k after j kind moved other) ∙ stood)
     ]
 
--- ---- The same of a machine within the limits
+-- ---- The same of a machine whose accesses all can be carried out
 
-pub machine_next-none : (m : MachineData) (k : ℕ) → IsMachine m → (next m k ≡ None) ↔ (halted_at m k ≡ true)
-machine_next-none m k is = next-none m k (machine_kind m is)
+-- there is no next event exactly where the vCPU is halted, or is not there
+pub served_next-none : (m : MachineData) (k : ℕ) → ServesAll m → (next m k ≡ None) ↔ (halted_at m k ≡ true)
+served_next-none m k serves = next-none m k (serves_kind m serves)
 
-pub machine_next_event : (m : MachineData) (k : ℕ) (after : MachineData) → IsMachine m → next m k ≡ Some after → HasEvent m k after
-machine_next_event m k after is moved = next_event m k after (machine_kind m is) moved
+-- what the event makes of its vCPU
+pub served_next_event : (m : MachineData) (k : ℕ) (after : MachineData) → ServesAll m → next m k ≡ Some after → HasEvent m k after
+served_next_event m k after serves moved = next_event m k after (serves_kind m serves) moved
 
 -- the law of what comes of an event
-pub ruleset outcome_laws = (machine_next-none, machine_next_event)
+pub ruleset outcome_laws = (served_next-none, served_next_event)

@@ -1,19 +1,18 @@
 -- A phase, event by event: what each vCPU keeps, and how many events it can still make.
-use Rattle.std.proofs.Common.{◌≡◌, ◌≢◌, ◌⊎◌, inl, inr, ℕ, zero, suc, ◌+◌, ◌-◌, ◌*◌, ◌<◌, ◌≤◌, Bool, true, false, ◌||◌, eqb, List, length, get_or, All, Option, Some, None, refl, sym, ◌∙◌, ap, subst, arith}
+use Rattle.std.proofs.Common.{◌≡◌, ◌≢◌, inl, inr, ℕ, ◌+◌, ◌-◌, ◌*◌, ◌<◌, ◌≤◌, true, false, ◌||◌, eqb, length, Option, Some, None, refl, sym, ◌∙◌, ap, subst, arith}
 use Rattle.std.specs.List.{slice_get}
-use Rattle.std.specs.Option.{IsSome, is_some, option_map_or}
-use Rattle.std.proofs.lemmas.Bool.{true≢false, false≢true, cases_Bool, cases_eq, or_cases, eqb-true, eqb-false, eq-eqb}
+use Rattle.std.specs.Option.{is_some, option_map_or}
+use Rattle.std.proofs.lemmas.Bool.{true≢false, false≢true, cases_Bool, cases_eq, or_cases, eqb-true, eqb-false}
 use Rattle.std.proofs.lemmas.Option.{same_Some, none-some}
-use Rattle.ram_block.specs.declared.cause.Cause.{Cause}
 use Rattle.rv64i_step.specs.Outcome.{FetchOutcome, Halting, Awaiting, Finishing}
 use Rattle.rv64i_step.specs.Vcpu.{VcpuData}
 use Rattle.rv64i_step.specs.declared.access.Access.{Access}
 use Rattle.rv64i_step.specs.declared.state.State.{State}
 use Rattle.rv64i_step.specs.declared.state.State.TheVariants.{Running, Halted}
-use Rattle.flat_machine.specs.Laws.{EventOutcome, OfFetch, OfAccess, HasEvent}
+use Rattle.flat_machine.specs.Laws.{EventOutcome, OfFetch, OfAccess}
 use Rattle.flat_machine.specs.Machine.{MachineData, Rest}
 use Rattle.flat_machine.specs.Next.{next}
-use Rattle.flat_machine.specs.Run.{is_halted, halted_at, steps_of, vcpu_ended, ended_at, has_ended}
+use Rattle.flat_machine.specs.Run.{is_halted, steps_of, vcpu_ended, has_ended}
 use Rattle.flat_machine.proofs.Outcomes.{AwaitsMemory, AwaitMemory, none_awaits, outcome_kind, option_cases, All-slice_get, next_event, next_others, next_count, next_on, halted_at-is}
 
 -- ---- One vCPU
@@ -39,6 +38,7 @@ abbrev pub made_of : Option Access → ℕ
 made_of None = 0
 made_of (Some access) = 1
 
+-- one that is halted makes none
 abbrev pub left_in : State → ℕ → ℕ
 left_in Running n = n
 left_in (Halted cause) n = 0
@@ -82,6 +82,7 @@ on_fetch until v after runs below none (Finishing f) =
     let now = left_running until after None (f.state ∙ runs) f.pending in
     record { on = on_without until after f.pending (omega (arith, f.steps)); less = omega (arith, left, now, f.steps) }
 
+-- any event of such a vCPU
 pub on_event : (until : ℕ) (v after : VcpuData) → v.state ≡ Running → v.steps < until → EventOutcome v after → GoesOn until v after
 on_event until v after runs below (OfFetch none outcome) = on_fetch until v after runs below none outcome
 on_event until v after runs below (OfAccess some f) =
@@ -93,6 +94,7 @@ on_event until v after runs below (OfAccess some f) =
           record { on = on_without until after f.pending (omega (arith, f.steps)); less = omega (arith, left, now, f.steps) })
     ]
 
+-- a state and a count of steps with which a phase has not ended
 not_ended_in : (until : ℕ) (s : State) (steps : ℕ) → (is_halted s || eqb steps until) ≡ false → (s ≡ Running) × (steps ≢ until)
 not_ended_in until Running steps on = (refl, eqb-false steps until on)
 not_ended_in until (Halted cause) steps on = absurd (true≢false on)
@@ -101,6 +103,7 @@ not_ended_in until (Halted cause) steps on = absurd (true≢false on)
 pub not_ended : (until : ℕ) (v : VcpuData) → vcpu_ended until v ≡ false → (v.state ≡ Running) × (v.steps ≢ until)
 not_ended until v on = not_ended_in until v.state v.steps on
 
+-- and with which it has: no event is left
 ended_left_in : (until : ℕ) (s : State) (steps made : ℕ) → (is_halted s || eqb steps until) ≡ true → left_in s (2 * (until - steps) - made) ≡ 0
 ended_left_in until Running steps made over = omega (arith, eqb-true steps until over)
 ended_left_in until (Halted cause) steps made over = refl
@@ -150,6 +153,7 @@ on_kind i n m on k v stood = (on k v stood).kind
 abbrev pub left_at : MachineData → ℕ → MachineData → ℕ → ℕ
 left_at i n m k = option_map_or (left_of (steps_of i k + n)) (slice_get m.vcpus k) 0
 
+-- the events left, the steps and the end of vCPU k are those of the vCPU there
 pub left_at-is : (i : MachineData) (n : ℕ) (m : MachineData) (k : ℕ) (v : VcpuData) → slice_get m.vcpus k ≡ Some v →
     left_at i n m k ≡ left_of (steps_of i k + n) v
 left_at-is i n m k v stood = ap (λ o. option_map_or (left_of (steps_of i k + n)) o 0) stood
@@ -162,12 +166,21 @@ pub has_ended-is : (i : MachineData) (n : ℕ) (m : MachineData) (k : ℕ) (v : 
 unfolding has_ended
 has_ended-is i n m k v stood = ap (λ o. option_map_or (vcpu_ended (steps_of i k + n)) o true) stood
 
+-- so none has finished more instructions than the phase has
+pub steps_at_most : (i : MachineData) (n : ℕ) (m : MachineData) (k : ℕ) → AreOn i n m → steps_of m k ≤ steps_of i k + n
+steps_at_most i n m k on =
+    elim (option_cases (slice_get m.vcpus k)) as (λ _. steps_of m k ≤ steps_of i k + n) [
+      | inl none ↦ (let gone : steps_of m k ≡ 0 = ap (λ o. option_map_or (λ w. w.steps) o 0) none in omega (arith, gone))
+      | inr (v, stood) ↦ omega (arith, steps_of-is m k v stood, (on k v stood).steps)
+    ]
+
 -- it is so at rest
 pub rest_on : (i : MachineData) (n : ℕ) → Rest i → AreOn i n i
 rest_on i n rest k v stood =
     on_without (steps_of i k + n) v (All-slice_get (λ w. w.pending ≡ None) i.vcpus k v rest.none_pending stood)
     (omega (arith, steps_of-is i k v stood))
 
+-- no more than two for each instruction that is left
 left_most : (s : State) (until steps made : ℕ) → left_in s (2 * (until - steps) - made) ≤ 2 * (until - steps)
 left_most Running until steps made = omega arith
 left_most (Halted cause) until steps made = omega arith
@@ -188,6 +201,7 @@ pub record IsGoing (i : MachineData) (n : ℕ) (m : MachineData) (k : ℕ) : Typ
   pub runs : vcpu.state ≡ Running
   pub below : vcpu.steps ≢ steps_of i k + n
 
+-- one whose phase has not ended is there, and runs
 pub going : (i : MachineData) (n : ℕ) (m : MachineData) (k : ℕ) → has_ended i n m k ≡ false → IsGoing i n m k
 unfolding has_ended
 going i n m k on =
@@ -212,6 +226,7 @@ pub record Moves (i : MachineData) (n : ℕ) (m : MachineData) (k : ℕ) (after 
   pub less : left_at i n after k < left_at i n m k
   pub others : (j : ℕ) → j ≢ k → left_at i n after j ≡ left_at i n m j
 
+-- each event of such a vCPU does that
 pub moves : (i : MachineData) (n : ℕ) (m : MachineData) (k : ℕ) (after : MachineData) → AreOn i n m → has_ended i n m k ≡ false →
     next m k ≡ Some after → Moves i n m k after
 moves i n m k after on still moved =

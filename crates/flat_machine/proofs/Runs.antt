@@ -1,5 +1,5 @@
 -- Runs: one after another, an event more, and their beginnings.
-use Rattle.std.proofs.Common.{◌≡◌, ℕ, ◌≤◌, List, [], ◌∷◌, ◌++◌, length, take, Option, Some, None, refl, sym, ◌∙◌, ap}
+use Rattle.std.proofs.Common.{◌≡◌, ℕ, ◌≤◌, List, [], ◌∷◌, ◌++◌, length, take, Option, Some, None, refl, ◌∙◌, ap}
 use Rattle.std.proofs.lemmas.List.{take-append-le}
 use Rattle.flat_machine.specs.Machine.{MachineData}
 use Rattle.flat_machine.specs.Next.{next}

@@ -1,14 +1,14 @@
 -- What the laws of events and runs say (this project's own events, docs/MACHINE.md).
-use Rattle.std.specs.Prelude.{◌≡◌, ◌≢◌, ℕ, ◌+◌, ◌<◌, List, length, slice_get, Option, Some, None, IsSome}
-use Rattle.ram_block.specs.Shape.{ShapeData, total_pages_of}
+use Rattle.std.specs.Prelude.{◌≡◌, ◌≢◌, ℕ, ◌+◌, ◌<◌, List, length, slice_get, All, Option, Some, None, IsSome, IfSome}
+use Rattle.ram_block.specs.Shape.{ShapeData, ram_bytes_of, total_pages_of}
 use Rattle.ram_block.specs.declared.page_buf.TheConstants.{PAGE}
 use Rattle.rv64i_step.specs.Event.{request_of}
 use Rattle.rv64i_step.specs.Outcome.{FetchOutcome, Finishes}
-use Rattle.rv64i_step.specs.Vcpu.{VcpuData}
+use Rattle.rv64i_step.specs.Vcpu.{VcpuData, IsPending, IsPlaced}
 use Rattle.rv64i_step.specs.declared.state.State.TheVariants.{Running}
 use Rattle.flat_machine.specs.Cell.{CellName, PageCell, SerialCell, TimerCell, Content, Page, Serial, Timer, content}
 use Rattle.flat_machine.specs.Machine.{MachineData}
-use Rattle.flat_machine.specs.Next.{cell_of}
+use Rattle.flat_machine.specs.Next.{cell_of, next}
 
 -- the cell is one of a machine of this shape, and the content is one of that cell: a whole page, or a device
 abbrev pub IsContentOf : ShapeData → CellName → Content → Type 0
@@ -16,6 +16,17 @@ IsContentOf shape (PageCell p) (Page bytes) = (p < total_pages_of shape) × (len
 IsContentOf shape SerialCell (Serial s) = Unit {0}
 IsContentOf shape TimerCell (Timer cmp) = Unit {0}
 IsContentOf shape _ _ = ⊥
+
+-- a machine of this shape can carry out the pending access, where there is one
+pub record IsServable (shape : ShapeData) (v : VcpuData) : Type 0 where
+  pub pending : IfSome v.pending (λ access. IsPending access.place access.instr)
+  pub placed : IsPlaced shape v
+
+-- what the laws of an event need of a machine, and each event keeps: RAM has the bytes of its shape, and each pending
+-- access can be carried out
+pub record ServesAll (m : MachineData) : Type 0 where
+  pub ram : length m.ram ≡ ram_bytes_of m.shape
+  pub each : All (IsServable m.shape) m.vcpus
 
 -- what one event makes of its vCPU: from a fetch one of three outcomes, and a pending access is made
 pub data EventOutcome (v after : VcpuData) : Type 0 where
@@ -48,9 +59,23 @@ pub record KeepsRest (m : MachineData) (k : ℕ) (after : MachineData) : Type 0 
   pub ram : length after.ram ≡ length m.ram
   pub cells : (d : CellName) → touched m k ≢ Some d → content after d ≡ content m d
 
+-- a run keeps the shape, as many vCPUs and bytes of RAM, and the clock counts its events
+pub record KeepsSizes (m : MachineData) (o : List ℕ) (after : MachineData) : Type 0 where
+  pub shape : after.shape ≡ m.shape
+  pub vcpus : length after.vcpus ≡ length m.vcpus
+  pub ram : length after.ram ≡ length m.ram
+  pub clock : after.clock ≡ m.clock + length o
+
 -- two machines have the same in all that the next event of vCPU k depends on
 pub record AgreesAt (m other : MachineData) (k : ℕ) : Type 0 where
   pub shape : other.shape ≡ m.shape
   pub clock : other.clock ≡ m.clock
   pub vcpu : slice_get other.vcpus k ≡ slice_get m.vcpus k
   pub cell : (c : CellName) → touched m k ≡ Some c → content other c ≡ content m c
+
+-- the event of vCPU k of the other machine makes the same of the vCPU, and of the cell that it touches
+pub record MakesTheSame (m : MachineData) (k : ℕ) (after other : MachineData) : Type 0 where
+  pub other_after : MachineData
+  pub moved : next other k ≡ Some other_after
+  pub vcpu : slice_get other_after.vcpus k ≡ slice_get after.vcpus k
+  pub cell : (c : CellName) → touched m k ≡ Some c → content other_after c ≡ content after c

@@ -1,4 +1,4 @@
-ghost use Rattle.std.specs.Prelude.{◌≡◌, ◌≢◌, ℕ, ◌≤◌, ◌↔◌, true, ◌∷◌, ◌++◌, [], List, Option, Some, None, length, slice_get, take};
+ghost use Rattle.std.specs.Prelude.{◌≡◌, ◌≢◌, ℕ, ◌≤◌, ◌↔◌, true, ◌∷◌, ◌++◌, ◌+◌, ◌*◌, [], All, List, Option, Some, None, length, slice_get, take};
 ghost use Rattle.ram_block.specs.Shape.{ram_bytes_of};
 ghost use Rattle.ram_block.specs.declared.cause.Cause.{Cause};
 ghost use Rattle.rv64i_step.specs.Event.{fetched_vcpu, request_of};
@@ -6,10 +6,10 @@ ghost use Rattle.rv64i_step.specs.Vcpu.{VcpuData};
 ghost use Rattle.rv64i_step.specs.declared.request.Request.{Request};
 ghost use Rattle.rv64i_step.specs.declared.request.Request.TheVariants.{NoFetch};
 ghost use Rattle.flat_machine.specs.Cell.{CellName, Content, content, with_content};
-ghost use Rattle.flat_machine.specs.Laws.{HasEvent, IsContentOf};
-ghost use Rattle.flat_machine.specs.Machine.{IsMachine, MachineData};
+ghost use Rattle.flat_machine.specs.Laws.{AgreesAt, HasEvent, IsContentOf, KeepsRest, KeepsSizes, MakesTheSame, ServesAll};
+ghost use Rattle.flat_machine.specs.Machine.{IsMachine, MachineData, Rest};
 ghost use Rattle.flat_machine.specs.Next.{cell_of, next, touched_by, with_vcpu};
-ghost use Rattle.flat_machine.specs.Run.{halted_at, run, run_on};
+ghost use Rattle.flat_machine.specs.Run.{Phase, halted_at, rounds, rounds_run, run, run_on, steps_of};
 
 /// The law of runs: a run goes on by its next event, its beginnings stay, and one order follows another.
 #[tactic(auto, using(crate::proofs::Runs::run_laws))]
@@ -35,10 +35,43 @@ pub fn a_cell_holds_what_was_written_to_it()
     ensures size { (m : MachineData) (c : CellName) (x : Content) → length m.ram ≡ ram_bytes_of m.shape → IsContentOf m.shape c x → length (with_content m c x).ram ≡ length m.ram }
 {}
 
+/// The law of the frame: an event leaves every other vCPU, and every page and device but the one that it touches; what
+/// it makes of its vCPU and of that page or device depends on these two, the shape and the clock alone.
+#[tactic(auto, using(crate::proofs::Frames::next_depends))]
+pub fn an_event_leaves_the_rest()
+    ensures keeps { (m : MachineData) (k : ℕ) (after : MachineData) → ServesAll m → next m k ≡ Some after → KeepsRest m k after }
+    ensures run { (m : MachineData) (o : List ℕ) (after : MachineData) → ServesAll m → run m o ≡ Some after → KeepsSizes m o after }
+    ensures depends { (m : MachineData) (other : MachineData) (k : ℕ) (after : MachineData) → ServesAll m → ServesAll other → AgreesAt m other k → next m k ≡ Some after → MakesTheSame m k after other }
+{}
+
+/// What the laws of an event need of a machine: each within the limits has it, and each event and run keeps it.
+#[tactic(auto, using(crate::proofs::Servable::machine_serves))]
+pub fn an_event_keeps_what_its_laws_need()
+    ensures machine { (m : MachineData) → IsMachine m → ServesAll m }
+    ensures next { (m : MachineData) (k : ℕ) (after : MachineData) → ServesAll m → next m k ≡ Some after → ServesAll after }
+    ensures run { (m : MachineData) (o : List ℕ) (after : MachineData) → ServesAll m → run m o ≡ Some after → ServesAll after }
+{}
+
 /// The law of what comes of an event: there is none exactly where the vCPU is halted, and an event makes its vCPU into
 /// one that is halted where it stood, or awaits an access, or has finished an instruction.
 #[tactic(auto, using(crate::proofs::Outcomes::outcome_laws))]
 pub fn an_event_halts_or_awaits_or_finishes()
-    ensures none { (m : MachineData) (k : ℕ) → IsMachine m → (next m k ≡ None) ↔ (halted_at m k ≡ true) }
-    ensures event { (m : MachineData) (k : ℕ) (after : MachineData) → IsMachine m → next m k ≡ Some after → HasEvent m k after }
+    ensures none { (m : MachineData) (k : ℕ) → ServesAll m → (next m k ≡ None) ↔ (halted_at m k ≡ true) }
+    ensures event { (m : MachineData) (k : ℕ) (after : MachineData) → ServesAll m → next m k ≡ Some after → HasEvent m k after }
+{}
+
+/// The law of rounds: from a machine at rest they are a phase, and the machine that they leave is that of their run.
+#[tactic(auto, using(crate::proofs::RoundPhases::rounds_laws))]
+pub fn rounds_are_a_phase()
+    ensures phase { (m : MachineData) (n : ℕ) → Rest m → length m.vcpus ≡ m.shape.vcpus → Phase m n (rounds m n) }
+    ensures ran { (m : MachineData) (n : ℕ) → Rest m → run m (rounds m n) ≡ Some (rounds_run m n).machine }
+{}
+
+/// The law of a phase: from a machine at rest it leaves no pending access, no vCPU finishes more instructions in it than
+/// it has, and each instruction has at most two events.
+#[tactic(auto, using(crate::proofs::PhaseEnds::phase_length))]
+pub fn a_phase_leaves_no_pending_access()
+    ensures pending { (m : MachineData) (n : ℕ) (o : List ℕ) (last : MachineData) → Rest m → length m.vcpus ≡ m.shape.vcpus → Phase m n o → run m o ≡ Some last → All (λ v. v.pending ≡ None) last.vcpus }
+    ensures steps { (m : MachineData) (n : ℕ) (o : List ℕ) (t : ℕ) (at : MachineData) (k : ℕ) → Rest m → Phase m n o → t ≤ length o → run m (take t o) ≡ Some at → steps_of at k ≤ steps_of m k + n }
+    ensures events { (m : MachineData) (n : ℕ) (o : List ℕ) → Rest m → length m.vcpus ≡ m.shape.vcpus → Phase m n o → length o ≤ 2 * n * m.shape.vcpus }
 {}

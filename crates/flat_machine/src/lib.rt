@@ -17,8 +17,10 @@ mod vcpus;
 
 pub use device_access::{apply_to_serial, apply_to_timer};
 pub use laws::{
-    a_cell_holds_what_was_written_to_it, a_run_goes_on_by_its_next_event,
-    an_event_halts_or_awaits_or_finishes, an_event_touches_one_cell_and_one_vcpu,
+    a_cell_holds_what_was_written_to_it, a_phase_leaves_no_pending_access,
+    a_run_goes_on_by_its_next_event, an_event_halts_or_awaits_or_finishes,
+    an_event_keeps_what_its_laws_need, an_event_leaves_the_rest,
+    an_event_touches_one_cell_and_one_vcpu, rounds_are_a_phase,
 };
 pub use machine::{Machine, Parts};
 pub use order::Order;

@@ -1,0 +1,8 @@
+use Rattle.flat_machine.proofs.PhaseEnds.{phase_pending, phase_steps}
+use Rattle.flat_machine.proofs.laws.a_phase_leaves_no_pending_access.Goals as goal
+
+pub returns-clause-pending : goal.returns-clause-pending
+returns-clause-pending c = phase_pending
+
+pub returns-clause-steps : goal.returns-clause-steps
+returns-clause-steps c = phase_steps
