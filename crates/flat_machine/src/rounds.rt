@@ -1,6 +1,6 @@
-ghost use Rattle.std.specs.Prelude.{◌≡◌, ◌<◌, ◌≤◌, ◌+◌, ◌*◌, ◌^◌, ℕ, List, [], length, map, slice_index, IfOk, OnErr, All};
+ghost use Rattle.std.specs.Prelude.{◌≡◌, ◌<◌, ◌≤◌, ◌+◌, ◌*◌, ◌^◌, ℕ, List, [], length, map, slice_index, Some, IfOk, OnErr, All};
 ghost use Rattle.flat_machine.specs.Machine.{IsMachine, Rest};
-ghost use Rattle.flat_machine.specs.Run.{ended_at, ends_of, round, rounds, rounds_on, rounds_run, steps_of, turn, vcpu_ended};
+ghost use Rattle.flat_machine.specs.Run.{Phase, ended_at, ends_of, round, rounds, rounds_on, rounds_run, run, steps_of, turn, vcpu_ended};
 
 use crate::{Machine, Order, Stepped};
 use ram_block::NoMemory;
@@ -16,7 +16,8 @@ impl Machine {
         requires rest { Rest self.old }
         requires most { n ≤ 1_000_000 }
         ensures order { IfOk result (λ o. o.members ≡ rounds self.old n) }
-        ensures machine { IfOk result (λ o. (rounds_run self.old n).machine ≡ self.new) }
+        ensures run { IfOk result (λ o. run self.old o.members ≡ Some self.new) }
+        ensures phase { IfOk result (λ o. Phase self.old n o.members) }
         ensures no_memory { OnErr result (self.new ≡ self.old) }
     {
         let ends = phase_ends(alloc, &self.vcpus, n)?;
