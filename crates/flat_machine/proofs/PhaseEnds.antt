@@ -1,9 +1,11 @@
 -- An order that is a phase from a machine at rest: what stands after each of its events, and at its end.
 use Rattle.std.proofs.Common.{◌≡◌, ◌≢◌, inl, inr, ℕ, zero, suc, ◌+◌, ◌*◌, ◌<◌, ◌≤◌, List, length, get_or, take, All, Some, None, refl, sym, ◌∙◌, ap, subst, arith}
 use Rattle.std.specs.List.{slice_get}
-use Rattle.std.specs.Prelude.{true, false}
-use Rattle.std.proofs.lemmas.Bool.{cases_eq}
+use Rattle.std.specs.Prelude.{◌==◌, true, false}
+use Rattle.std.proofs.lemmas.Bool.{cases_eq, eq-eqb, ne_eqb}
+use Rattle.std.specs.List.{count_by}
 use Rattle.std.proofs.lemmas.List.{take_all}
+use Rattle.std.proofs.lemmas.List.Sums.{count_by_more_yes, count_by_more_no}
 use Rattle.std.proofs.lemmas.Option.{same_Some, slice_get-get_or, slice_get_within}
 use Rattle.std.proofs.Math.Seq.{take-suc}
 use Rattle.flat_machine.specs.Machine.{MachineData, Rest}
@@ -42,6 +44,24 @@ total_less f g k (suc c) within less same =
       | inr other ↦ omega (arith, total_less f g k c (omega arith) less same, same c (λ e. other (sym e)))
     ]
 
+-- ---- The events of one vCPU
+
+-- how many events of an order are of vCPU j
+abbrev pub events_of : ℕ → List ℕ → ℕ
+events_of j o = count_by (λ k. k == j) o
+
+-- one more where the next event is one
+events_of_mine : (o : List ℕ) (t j : ℕ) → t < length o → get_or o t 0 ≡ j → events_of j (take (suc t) o) ≡ events_of j (take t o) + 1
+events_of_mine o t j h here =
+    let e : suc t ≡ t + 1 = omega arith in
+    ap (λ n. events_of j (take n o)) e ∙ count_by_more_yes (λ k. k == j) o t 0 h (eq-eqb (get_or o t 0) j here)
+
+-- as many where it is not
+events_of_other : (o : List ℕ) (t j : ℕ) → t < length o → get_or o t 0 ≢ j → events_of j (take (suc t) o) ≡ events_of j (take t o)
+events_of_other o t j h other =
+    let e : suc t ≡ t + 1 = omega arith in
+    ap (λ n. events_of j (take n o)) e ∙ count_by_more_no (λ k. k == j) o t 0 h (ne_eqb (get_or o t 0) j other)
+
 -- ---- The machines of a phase
 
 -- what stands after the first t events
@@ -51,6 +71,7 @@ pub record HasCome (i : MachineData) (n : ℕ) (o : List ℕ) (t : ℕ) : Type 0
   pub on : AreOn i n machine
   pub count : length machine.vcpus ≡ length i.vcpus
   pub left : total (left_at i n machine) (length i.vcpus) + t ≤ 2 * n * length i.vcpus
+  pub own : (j : ℕ) → events_of j (take t o) + left_at i n machine j ≤ 2 * n
 
 -- before the first
 comes_first : (i : MachineData) (n : ℕ) (o : List ℕ) → Rest i → HasCome i n o 0
@@ -61,6 +82,7 @@ comes_first i n o rest = record {
   on = rest_on i n rest;
   count = refl;
   left = omega (arith, total_most (left_at i n i) (2 * n) (length i.vcpus) (rest_left i n));
+  own = λ j. omega (arith, rest_left i n j);
 }
 
 -- after one more
@@ -80,6 +102,12 @@ comes_next i n o t h at come =
       on = m.on;
       count = m.count ∙ come.count;
       left = omega (arith, come.left, total_less (left_at i n moved.0) (left_at i n before) k (length i.vcpus) within m.less m.others);
+      own = λ j. elim (cases_eq k j) as (λ _. events_of j (take (suc t) o) + left_at i n moved.0 j ≤ 2 * n) [
+        | inl here ↦
+            (let P : ℕ → Type 0 = λ x. left_at i n moved.0 x < left_at i n before x in
+            omega (arith, events_of_mine o t j h here, subst P here m.less, come.own j))
+        | inr other ↦ omega (arith, events_of_other o t j h other, m.others j (λ e. other (sym e)), come.own j)
+      ];
     }
 
 -- after any number of them
@@ -108,6 +136,12 @@ phase_length i n o rest count phase =
     let come = comes i n o (length o) rest phase.each (omega arith) in
     let P : ℕ → Type 0 = λ c. length o ≤ 2 * n * c in
     subst P count (omega (arith, come.left))
+
+-- and so has each vCPU for its own
+pub phase_own : (i : MachineData) (n : ℕ) (o : List ℕ) (j : ℕ) → Rest i → Phase i n o → events_of j o ≤ 2 * n
+phase_own i n o j rest phase =
+    let come = comes i n o (length o) rest phase.each (omega arith) in
+    omega (arith, come.own j, ap (events_of j) (take_all (length o) o (omega arith)))
 
 -- at its end no access is pending
 pub phase_pending : (i : MachineData) (n : ℕ) (o : List ℕ) (last : MachineData) → Rest i → length i.vcpus ≡ i.shape.vcpus → Phase i n o →

@@ -6,12 +6,10 @@ use Rattle.ram_block.specs.declared.place.Place.{Place}
 use Rattle.ram_block.specs.declared.place.Place.TheVariants as places
 use Rattle.ram_block.specs.declared.place.SerialReg.TheVariants.{Tx, Rx, Status}
 use Rattle.ram_block.specs.declared.place.TimerReg.TheVariants.{Cmp}
-use Rattle.ram_block.specs.declared.place.Width.{Width}
 use Rattle.ram_block.specs.declared.place.Width.TheVariants.{Four}
-use Rattle.rv64i_decode.specs.declared.op.AmoOp.{AmoOp}
 use Rattle.rv64i_step.specs.Amo.{amo_written}
 use Rattle.rv64i_step.specs.declared.request.Request.{Request}
-use Rattle.rv64i_step.specs.declared.request.Request.TheVariants.{Nothing, NoFetch, Fetch, Load, Store, Amo}
+use Rattle.rv64i_step.specs.declared.request.Request.TheVariants.{Fetch, Load, Store, Amo}
 use Rattle.serial_timer.specs.Serial.{SerialData, sent, received_byte, received, status_of}
 use Rattle.serial_timer.specs.Timer.{timer_reads}
 use Rattle.flat_machine.specs.Machine.{MachineData, page_of}

@@ -1,6 +1,6 @@
 -- The machine as plain data: one flat list of bytes, vCPUs, devices and a clock (RISC-V Unprivileged ISA for the
 -- vCPUs; this project's own devices, limits and boot values, docs/MACHINE.md).
-use Rattle.std.specs.Prelude.{◌≡◌, ℕ, ◌-◌, ◌^◌, ◌<◌, ◌≤◌, List, [], ◌++◌, length, map, replicate, Option, None, All}
+use Rattle.std.specs.Prelude.{◌≡◌, ℕ, ◌-◌, ◌^◌, ◌<◌, ◌≤◌, List, [], ◌++◌, length, map, replicate, None, All}
 use Rattle.std.specs.List.{range_with_len}
 use Rattle.ram_block.specs.Shape.{ShapeData, IsShape, ram_bytes_of}
 use Rattle.rv64i_step.specs.Vcpu.{VcpuData, IsPlaced, IsVcpu, boot_vcpu}

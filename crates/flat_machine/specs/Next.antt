@@ -1,5 +1,5 @@
 -- One event of the machine (this project's own events, docs/MACHINE.md).
-use Rattle.std.specs.Prelude.{ℕ, ◌+◌, List, slice_get, slice_set, Option, Some, None}
+use Rattle.std.specs.Prelude.{ℕ, ◌+◌, slice_get, slice_set, Option, Some, None}
 use Rattle.ram_block.specs.Shape.{ShapeData}
 use Rattle.rv64i_step.specs.Event.{request_of, fetched_vcpu, accessed_vcpu}
 use Rattle.rv64i_step.specs.Vcpu.{VcpuData}

@@ -1,4 +1,5 @@
-ghost use Rattle.std.specs.Prelude.{◌≡◌, ◌≢◌, ℕ, ◌≤◌, ◌↔◌, true, ◌∷◌, ◌++◌, ◌+◌, ◌*◌, [], All, List, Option, Some, None, length, slice_get, take};
+ghost use Rattle.std.specs.Prelude.{◌≡◌, ◌≢◌, ◌==◌, ℕ, ◌≤◌, ◌↔◌, true, ◌∷◌, ◌++◌, ◌+◌, ◌*◌, [], All, List, Option, Some, None, length, slice_get, take};
+ghost use Rattle.std.specs.List.{count_by};
 ghost use Rattle.ram_block.specs.Shape.{ram_bytes_of};
 ghost use Rattle.ram_block.specs.declared.cause.Cause.{Cause};
 ghost use Rattle.rv64i_step.specs.Event.{fetched_vcpu, request_of};
@@ -74,4 +75,5 @@ pub fn a_phase_leaves_no_pending_access()
     ensures pending { (m : MachineData) (n : ℕ) (o : List ℕ) (last : MachineData) → Rest m → length m.vcpus ≡ m.shape.vcpus → Phase m n o → run m o ≡ Some last → All (λ v. v.pending ≡ None) last.vcpus }
     ensures steps { (m : MachineData) (n : ℕ) (o : List ℕ) (t : ℕ) (at : MachineData) (k : ℕ) → Rest m → Phase m n o → t ≤ length o → run m (take t o) ≡ Some at → steps_of at k ≤ steps_of m k + n }
     ensures events { (m : MachineData) (n : ℕ) (o : List ℕ) → Rest m → length m.vcpus ≡ m.shape.vcpus → Phase m n o → length o ≤ 2 * n * m.shape.vcpus }
+    ensures own_events { (m : MachineData) (n : ℕ) (o : List ℕ) (k : ℕ) → Rest m → Phase m n o → count_by (λ j. j == k) o ≤ 2 * n }
 {}

@@ -1,5 +1,5 @@
 -- A round is a turn after another; each turn has at most one event.
-use Rattle.std.proofs.Common.{ℕ, ◌+◌, ◌-◌, ◌^◌, ◌≤◌, refl, ◌∙◌, arith}
+use Rattle.std.proofs.Common.{ℕ, ◌+◌, ◌-◌, ◌^◌, refl, ◌∙◌, arith}
 use Rattle.flat_machine.proofs.Turns.{no_turn, steps_of-le, turn_more}
 use Rattle.flat_machine.proofs.machine.Machine.round.Goals as goal
 
