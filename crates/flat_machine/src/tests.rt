@@ -77,19 +77,18 @@ static PHASES: [(&[u32], [u64; 3], u32, u64, (State, u64, u64)); 6] = [
     (&TIMES, [1, 1, 2], 0, 0, (State::Running, 0x8000_0000, 0)),
 ];
 
-// The first word, the pc that the vCPU starts from, and the instructions; then the clock and why it halts.
+// The first word, its statement, and the instructions; then why the guest halts, and where.
 #[rattlefmt::skip]
-static HALTS: [(u32, &str, u64, u32, u64, Cause); 10] = [
-    (0x00100073, "a pc inside a word", 0x8000_0002, 1, 1, Cause::FetchMisaligned),
-    (0x00000067, "jalr x0, 0(x0)", 0x8000_0000, 2, 2, Cause::FetchOutside),
-    (0x00000000, ".word 0", 0x8000_0000, 1, 1, Cause::Illegal),
-    (0x00000163, "beq x0, x0, 2", 0x8000_0000, 1, 1, Cause::JumpMisaligned),
-    (0x00103283, "ld x5, 1(x0)", 0x8000_0000, 1, 1, Cause::LoadMisaligned),
-    (0x00003283, "ld x5, 0(x0)", 0x8000_0000, 1, 1, Cause::LoadOutside),
-    (0x00002123, "sw x0, 2(x0)", 0x8000_0000, 1, 1, Cause::StoreMisaligned),
-    (0x00000023, "sb x0, 0(x0)", 0x8000_0000, 1, 1, Cause::StoreOutside),
-    (0x00000073, "ecall", 0x8000_0000, 1, 1, Cause::Ecall),
-    (0x00100073, "ebreak", 0x8000_0000, 1, 1, Cause::Ebreak),
+static HALTS: [(u32, &str, u32, Cause, u64); 9] = [
+    (0x00000067, "jalr x0, 0(x0)", 2, Cause::FetchOutside, 0),
+    (0x00000000, ".word 0", 1, Cause::Illegal, 0x8000_0000),
+    (0x00000163, "beq x0, x0, 2", 1, Cause::JumpMisaligned, 0x8000_0000),
+    (0x00103283, "ld x5, 1(x0)", 1, Cause::LoadMisaligned, 0x8000_0000),
+    (0x00003283, "ld x5, 0(x0)", 1, Cause::LoadOutside, 0x8000_0000),
+    (0x00002123, "sw x0, 2(x0)", 1, Cause::StoreMisaligned, 0x8000_0000),
+    (0x00000023, "sb x0, 0(x0)", 1, Cause::StoreOutside, 0x8000_0000),
+    (0x00000073, "ecall", 1, Cause::Ecall, 0x8000_0000),
+    (0x00100073, "ebreak", 1, Cause::Ebreak, 0x8000_0000),
 ];
 
 fn image_of(alloc: Global, words: &[u32]) -> Result<Vec<u8>, AllocError> {
@@ -182,17 +181,28 @@ fn phases_end_where_the_instructions_say(rt: HostRuntime) -> Result<(), Fail> {
 }
 
 #[test]
-fn each_cause_halts_a_guest(rt: HostRuntime) -> Result<(), Fail> {
+fn each_cause_of_a_booted_guest_halts_it(rt: HostRuntime) -> Result<(), Fail> {
     let alloc = rt.alloc();
-    for &(word, text, pc, n, clock, cause) in &HALTS {
-        let m = booted(alloc, &[1, 1, 1], &[word], &[])?;
-        let mut m = started_at(alloc, m, pc)?;
+    for &(word, text, n, cause, pc) in &HALTS {
+        let mut m = booted(alloc, &[1, 1, 1], &[word], &[])?;
         phase(alloc, &mut m, n)?;
-        let stop = if n == 1 { pc } else { 0 };
-        assert_eq!(rt; m.clock(), clock, "at {text}");
-        let wanted = (State::Halted(cause), stop, u64::from(n) - 1);
+        assert_eq!(rt; m.clock(), u64::from(n), "at {text}");
+        let wanted = (State::Halted(cause), pc, u64::from(n) - 1);
         assert_eq!(rt; seen(&m, 0), Some(wanted), "at {text}");
     }
+    Ok(())
+}
+
+// No jump leads there, and so no booted guest.
+#[test]
+fn a_vcpu_that_starts_inside_a_word_halts(rt: HostRuntime) -> Result<(), Fail> {
+    let alloc = rt.alloc();
+    let m = booted(alloc, &[1, 1, 1], &EBREAK, &[])?;
+    let mut m = started_at(alloc, m, 0x8000_0002)?;
+    phase(alloc, &mut m, 1)?;
+    assert_eq!(rt; m.clock(), 1);
+    let wanted = (State::Halted(Cause::FetchMisaligned), 0x8000_0002, 0);
+    assert_eq!(rt; seen(&m, 0), Some(wanted));
     Ok(())
 }
 
