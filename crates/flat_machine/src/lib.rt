@@ -26,3 +26,6 @@ pub use machine::{Machine, Parts};
 pub use order::Order;
 pub use page_access::apply_to_page;
 pub use step::Stepped;
+
+#[cfg(test)]
+mod tests;
