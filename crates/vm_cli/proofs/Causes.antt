@@ -1,5 +1,5 @@
 -- The cause of each fault of a save, by cases on the fault.
-use Rattle.std.proofs.Common.{◌≡◌, inl, inr, ℕ, ◌+◌, ◌<◌, ◌≤◌, List, [], ◌∷◌, length, Option, Some, None, Result, Ok, Err, refl, sym, ap, subst, ◌∙◌, arith}
+use Rattle.std.proofs.Common.{◌≡◌, inl, inr, ℕ, ◌<◌, List, [], ◌∷◌, length, Option, Some, None, Result, Ok, refl, sym, ap, subst, ◌∙◌, arith}
 use Rattle.std.specs.Prelude.{IfSome, IfOk}
 use Rattle.medium.specs.Count.{HasRisen}
 use Rattle.vm_cli.specs.Answer.{Given, HasItsCause, IsAccepted, IsFaultOfLine, EndsEarly, EndsWith, IsNotEmpty, called_for, fault_of_save}

@@ -1,7 +1,7 @@
 -- Where the save failed, its fault says why; where it did not, the output is the machine's file.
 use Rattle.std.proofs.Common.{Err, ap, refl, sym, ◌∙◌}
 use Rattle.std.proofs.lemmas.Result.{err_from_is_err_and}
-use Rattle.ram_block.specs.Shape.{ShapeData, ram_bytes_of}
+use Rattle.ram_block.specs.Shape.{ShapeData}
 use Rattle.image_file.specs.Image.{image_of}
 use Rattle.vm_cli.specs.FirstSave.{one_page}
 use Rattle.vm_cli.proofs.Causes.{accepted, file_saved, save_caused, save_ends, save_unwritten}
