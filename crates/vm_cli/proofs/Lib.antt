@@ -6,3 +6,4 @@ pub mod Statuses
 pub mod Torn
 pub mod Bits
 pub mod AnyFile
+pub mod OnePage

@@ -10,6 +10,7 @@ ghost use Rattle.vm_cli.specs.declared.save.SaveFault.TheVariants.{FileFault as 
 use crate::device_text::put_boot_devices;
 use crate::head_text::{put_head, put_tail};
 use file_plan::Plan;
+use flat_machine::Machine;
 use medium::{Failed, Medium};
 use ram_block::{NoMemory, PageBuf, Shape};
 use std::alloc::Global;
@@ -116,7 +117,7 @@ pub(crate) fn save_boot<M: Medium>(
     ensures count { M.faults output.old ≤ M.faults output.new }
 {
     let plan = Plan::of(shape);
-    let page = boot_page(alloc, image)?;
+    let page = boot_page(alloc, shape, image)?;
     let mut head = Vec::new(alloc);
     put_head(&mut head, &plan, &page)?;
     let mut tail = Vec::new(alloc);
@@ -125,20 +126,15 @@ pub(crate) fn save_boot<M: Medium>(
     write_pieces(output, &plan, &page, &head, &tail)
 }
 
-// A page that begins with the image.
-fn boot_page(alloc: Global, image: &[u8]) -> Result<PageBuf, NoMemory>
-    requires { length image.now ≤ 4096 }
+// The one page of the machine at boot.
+fn boot_page(alloc: Global, shape: &Shape, image: &[u8]) -> Result<PageBuf, NoMemory>
+    requires shape { shape.now ≡ one_page }
+    requires image { length image.now ≤ 4096 }
     ensures { IfOk result (λ page. page ≡ image.now ++ replicate (4096 - length image.now) 0) }
 {
-    let mut page = PageBuf::new(alloc)?;
-    put_front(page.bytes_mut(), image);
-    Ok(page)
-}
-
-// Puts the image over the first bytes.
-fn put_front(bytes: &mut [u8], image: &[u8])
-    requires { length image.now ≤ length bytes.old }
-    ensures { bytes.new ≡ image.now ++ drop (length image.now) bytes.old }
-{
-    bytes[..image.len()].copy_from_slice(image);
+    let mut ram = Machine::boot(alloc, *shape, image, &[])?.into_parts().ram;
+    match ram.pop() {
+        Some(page) => Ok(page),
+        None => unreachable!(),
+    }
 }
