@@ -1,3 +1,6 @@
+ghost use Rattle.std.specs.Prelude.{IfSome};
+ghost use Rattle.rv64i_decode.specs.Row.{Row};
+
 use crate::statement::Statement;
 
 // Words of which many are instructions: `fixed` is set in each, and the bits of `free` are drawn.
@@ -43,7 +46,9 @@ impl Generator {
     }
 
     /// The next instruction that has a statement, or none after very many draws.
-    pub(crate) fn statement(&mut self) -> Option<Statement> {
+    pub(crate) fn statement(&mut self) -> Option<Statement>
+        ensures { IfSome result (λ s. Row s.word s.instr) }
+    {
         for _ in 0..DRAWS {
             if let Some(statement) = Statement::of_word(self.word()) {
                 return Some(statement);

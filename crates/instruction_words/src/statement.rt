@@ -1,3 +1,8 @@
+ghost use Rattle.std.specs.Prelude.{◌≡◌, ℕ, None, IfSome};
+ghost use Rattle.rv64i_decode.specs.Row.{Row};
+ghost use Rattle.rv64i_decode.specs.declared.instr.Instr.{Instr};
+ghost use Rattle.rv64i_decode.specs.declared.instr.Instr.TheVariants.{Fence};
+
 use rv64i_decode::{
     AmoOp, BranchOp, ImmOp, Instr, LoadOp, RegOp, RegWOp, ShiftOp, StoreOp, decode, encode,
 };
@@ -19,7 +24,11 @@ pub(crate) struct Statement {
 
 impl Statement {
     /// The statement of a word, where it is an instruction. A fence has none, unless it is the full one.
-    pub(crate) fn of_word(word: u32) -> Option<Statement> {
+    pub(crate) fn of_word(word: u32) -> Option<Statement>
+        ensures word { IfSome result (λ s. s.word ≡ word) }
+        ensures row { IfSome result (λ s. Row word s.instr) }
+        ensures none { result ≡ None → (instr : Instr) → Row word instr → (rd : ℕ) × ((rs1 : ℕ) × ((bits : ℕ) × (instr ≡ Fence rd rs1 bits))) }
+    {
         let instr = decode(word)?;
         if matches!(instr, Instr::Fence { .. }) && instr != FULL_FENCE {
             return None;
@@ -29,7 +38,9 @@ impl Statement {
     }
 
     /// The word that `encode` makes of the instruction.
-    pub(crate) fn word(&self) -> u32 {
+    pub(crate) fn word(&self) -> u32
+        ensures { result ≡ self.now.word }
+    {
         self.word
     }
 }
