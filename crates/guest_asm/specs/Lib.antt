@@ -1,0 +1,12 @@
+pub mod Assemble
+pub mod Bytes
+pub mod Facts
+pub mod Labels
+pub mod Line
+pub mod Listing
+pub mod Mnemonic
+pub mod Number
+pub mod Operand
+pub mod Parts
+pub mod Statement
+pub mod Steps
