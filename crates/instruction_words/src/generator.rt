@@ -1,7 +1,8 @@
 ghost use Rattle.std.specs.Prelude.{IfSome};
 ghost use Rattle.rv64i_decode.specs.Row.{Row};
+ghost use Rattle.rv64i_decode.specs.declared.instr.Instr.{Instr};
 
-use crate::statement::Statement;
+use rv64i_decode::encode_decoded;
 
 // Words of which many are instructions: `fixed` is set in each, and the bits of `free` are drawn.
 struct Family {
@@ -25,13 +26,13 @@ static FAMILIES: [Family; 18] = [
     Family { fixed: 0x0000_0033, free: 0x41ff_ff80 }, // add and its like
     Family { fixed: 0x0000_0033, free: 0x43ff_df80 }, // the same, with sub and sra more often
     Family { fixed: 0x0000_003b, free: 0x41ff_df80 }, // addw and its like
-    Family { fixed: 0x0ff0_000f, free: 0xf000_0000 }, // fence
+    Family { fixed: 0x0ff0_000f, free: 0x0000_0000 }, // fence
     Family { fixed: 0x0000_0073, free: 0x00f0_0000 }, // ecall and ebreak
     Family { fixed: 0x0000_202f, free: 0x0fff_9f80 }, // amoadd and amoswap
     Family { fixed: 0x0000_202f, free: 0xe7ff_9f80 }, // the AMOs but amoswap
 ];
 
-// The most draws for one statement. About two of three give one.
+// The most draws for one instruction. About two of three give one.
 const DRAWS: u32 = 1000;
 
 /// Draws instructions, each time the same ones, by a linear congruence.
@@ -45,13 +46,14 @@ impl Generator {
         Generator { state: 1 }
     }
 
-    /// The next instruction that has a statement, or none after very many draws.
-    pub(crate) fn statement(&mut self) -> Option<Statement>
-        ensures { IfSome result (λ s. Row s.word s.instr) }
+    /// The word of the next instruction, or none after very many draws.
+    pub(crate) fn instruction(&mut self) -> Option<u32>
+        ensures { IfSome result (λ word. (instr : Instr) × Row word instr) }
     {
         for _ in 0..DRAWS {
-            if let Some(statement) = Statement::of_word(self.word()) {
-                return Some(statement);
+            let word = self.word();
+            if encode_decoded(word).is_some() {
+                return Some(word);
             }
         }
         None
