@@ -5,11 +5,11 @@
 set -euo pipefail
 cd "$(dirname "$0")/.."
 
-program=crates/rvsnap/out/rvsnap
+# shellcheck source=checks/lib/outside.sh
+. checks/lib/outside.sh
+
 pages_at=$((0x100000))
 page=4096
-work=$(mktemp -d)
-trap 'rm -rf "$work"' EXIT
 
 cat > "$work/guest.c" <<'C'
 // Writes a line to the serial device, counts the calls in memory, and ends at an ebreak.
@@ -62,10 +62,6 @@ with_llvm() {
     llvm-objcopy -O binary "$work/guest.elf" "$work/guest.bin"
 }
 
-has() {
-    command -v "$1" > "$work/found"
-}
-
 has_gnu() {
     has riscv64-unknown-elf-gcc && has riscv64-unknown-elf-objcopy
 }
@@ -79,46 +75,22 @@ accept() {
     rm -f "$work/guest.elf" "$work/guest.bin" "$work/guest.snap"
     "$2"
     local status=0
-    "$program" save image="$work/guest.elf" out="$work/guest.snap" vcpus=1 blocks=1 pages=1 stop=0 run=0 || status=$?
+    "$rvsnap" save image="$work/guest.elf" out="$work/guest.snap" vcpus=1 blocks=1 pages=1 stop=0 run=0 || status=$?
     if [ "$status" -ne 0 ]; then
-        echo "elf_image: rvsnap ended with status $status on the file that $1 built"
-        exit 1
+        fail "rvsnap ended with status $status on the file that $1 built"
     fi
     local len
     len=$(wc -c < "$work/guest.bin")
     { cat "$work/guest.bin"; head -c $((page - len)) /dev/zero; } > "$work/wanted"
     tail -c +$((pages_at + 1)) "$work/guest.snap" | head -c "$page" > "$work/ram"
     if ! cmp "$work/wanted" "$work/ram"; then
-        echo "elf_image: the first page of RAM isn't the program that $1 built"
-        exit 1
+        fail "the first page of RAM isn't the program that $1 built"
     fi
-    echo "elf_image: the ELF file that $1 built is accepted, and its $len bytes stand at the start of RAM"
+    say "the ELF file that $1 built is accepted, and its $len bytes stand at the start of RAM"
 }
 
-# Whether the program is there, and no source of a crate is newer.
-is_built() {
-    [ -x "$program" ] && [ -z "$(find crates/*/src -newer "$program" -print -quit)" ]
-}
-
-if ! has_gnu && ! has_llvm; then
-    echo "elf_image: skipped, since neither riscv64-unknown-elf-gcc nor clang with ld.lld is installed"
-    exit 0
-fi
-
-if ! is_built; then
-    if ! has rt; then
-        echo "elf_image: skipped, since $program is not built and rt is not installed"
-        exit 0
-    fi
-    echo "elf_image: building $program"
-    # It is given no words, and so ends with status 1: what counts is that it was built.
-    (cd crates/rvsnap && rt run) > "$work/build" 2>&1 || true
-    if [ ! -x "$program" ]; then
-        echo "elf_image: 'rt run' failed in crates/rvsnap:"
-        cat "$work/build"
-        exit 1
-    fi
-fi
+has_gnu || has_llvm || skip "neither riscv64-unknown-elf-gcc nor clang with ld.lld is installed"
+build_rvsnap_or_skip
 
 if has_gnu; then
     accept "GNU gcc" with_gnu

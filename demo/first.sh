@@ -1,20 +1,35 @@
 #!/usr/bin/env bash
-# Builds rvsnap where it is missing, and saves the freshly booted machine of a small guest to a snapshot file.
+# Builds rvsnap where it is missing, assembles a small guest, and saves its freshly booted machine to a snapshot file.
 # Usage: demo/first.sh [FILE], where FILE is the snapshot file to be written.
 set -u
 cd "$(dirname "$0")/.." || exit 1
 
-program=crates/rvsnap/out/rvsnap
+program=$PWD/crates/rvsnap/out/rvsnap
+text=demo/guest.s
 image=demo/guest.img
-snapshot=${1:-demo/guest.snap}
+own_snapshot=demo/guest.snap
+snapshot=${1:-$own_snapshot}
 log=demo/build.log
+work=$(mktemp -d)
+trap 'rm -rf "$work"' EXIT
 
 fail() {
     echo "demo: $*" >&2
     exit 1
 }
 
-[ ! -s "$snapshot" ] || fail "$snapshot has bytes already, and rvsnap writes over none: remove it, or name another file"
+# run STATUS WORD...: shows a line, and what rvsnap prints to it. It has to end with this status.
+run() {
+    local wanted=$1 status=0
+    shift
+    echo "rvsnap $*"
+    "$program" "$@" || status=$?
+    [ "$status" -eq "$wanted" ] || fail "rvsnap ended with status $status: docs/COMMAND_LINE.md says what it means"
+}
+
+if [ $# -gt 0 ] && [ -s "$snapshot" ]; then
+    fail "$snapshot has bytes already, and rvsnap writes over none: remove it, or name another file"
+fi
 
 if [ ! -x "$program" ]; then
     command -v rt >/dev/null 2>&1 || fail "the command rt isn't on the PATH: install the kit that README.md names"
@@ -24,15 +39,20 @@ if [ ! -x "$program" ]; then
     [ -x "$program" ] || fail "the build failed: see $log"
 fi
 
-echo "The guest has two instructions, addi x5, x0, 1 and ebreak:"
+# What the demo wrote itself is made anew.
+rm -f "$image" "$own_snapshot"
+
+echo "A guest, and the bytes that it assembles to:"
+cat "$text"
+run 0 asm image="$text" out="$image"
 od -A d -t x1 "$image"
 
-line="save image=$image out=$snapshot vcpus=1 blocks=1 pages=1 stop=0 run=0"
-echo "rvsnap $line"
-# shellcheck disable=SC2086
-"$program" $line
-status=$?
-[ "$status" -eq 0 ] || fail "rvsnap ended with status $status: docs/COMMAND_LINE.md says what it means"
+echo "A text with a wrong line is refused, with status 9:"
+printf 'ecall\naddi x1, x2\n' >"$work/wrong.s"
+cat "$work/wrong.s"
+(cd "$work" && run 9 asm image=wrong.s out=wrong.img) || exit 1
 
-echo "Saved: $snapshot has $(wc -c <"$snapshot") bytes. It begins with its magic, version and sections:"
+echo "The machine that boots with the guest, saved:"
+run 0 save image="$image" out="$snapshot" vcpus=1 blocks=1 pages=1 stop=0 run=0
+echo "$snapshot has $(wc -c <"$snapshot") bytes. It begins with its magic, version and sections:"
 od -A d -t x1z -N 96 "$snapshot"

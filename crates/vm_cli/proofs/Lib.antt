@@ -7,3 +7,4 @@ pub mod Torn
 pub mod Bits
 pub mod AnyFile
 pub mod OnePage
+pub mod Fronts

@@ -2,7 +2,7 @@
 use Rattle.std.proofs.Common.{◌≡◌, arith}
 use Rattle.vm_cli.specs.Answer.{fault_status}
 use Rattle.vm_cli.specs.declared.answer.Fault.{Fault}
-use Rattle.vm_cli.specs.declared.answer.Fault.TheVariants.{Usage, NotYet, ImageRefused, FileFault, ImageFault, NoMemory, NotEmpty}
+use Rattle.vm_cli.specs.declared.answer.Fault.TheVariants.{Usage, NotYet, ImageRefused, FileFault, ImageFault, NoMemory, NotEmpty, ConsoleFault, AsmRefused}
 
 pub no_success : (fault : Fault) → fault_status fault ≡ 0 → ⊥
 no_success (Usage index kind) is = omega arith
@@ -12,3 +12,5 @@ no_success FileFault is = omega arith
 no_success ImageFault is = omega arith
 no_success NoMemory is = omega arith
 no_success (NotEmpty len) is = omega arith
+no_success ConsoleFault is = omega arith
+no_success (AsmRefused line kind) is = omega arith

@@ -3,3 +3,5 @@ pub mod Layout
 pub mod Words
 pub mod FirstSave
 pub mod Answer
+pub mod FaultLine
+pub mod Parts

@@ -1,8 +1,9 @@
 ghost use Rattle.std.specs.Prelude.{◌≡◌};
-ghost use Rattle.vm_cli.specs.Answer.{fault_status, status_of, fault_of_image, fault_of_save, fault_of_words};
+ghost use Rattle.vm_cli.specs.Answer.{fault_status, status_of, fault_of_image, fault_of_save, fault_of_text, fault_of_words};
 
 use crate::save::SaveFault;
 use flat_machine::Order;
+use guest_asm::{AsmFault, AsmKind};
 use image_file::{ImageFault, ImageRefusal};
 use vm_words::{UsageKind, WordsFault};
 
@@ -16,11 +17,15 @@ pub enum Fault {
     ImageRefused(ImageRefusal),
     /// A call on a file failed.
     FileFault,
+    /// A call on the console failed.
+    ConsoleFault,
     /// A call on the image failed.
     ImageFault,
     NoMemory,
     /// The file to be written holds so many bytes already.
     NotEmpty { len: u64 },
+    /// The text that was to be assembled has a wrong line: the first, counted from 1, and what is wrong with it.
+    AsmRefused { line: u32, kind: AsmKind },
 }
 
 impl Fault {
@@ -32,9 +37,11 @@ impl Fault {
             Fault::Usage { .. } | Fault::NotYet => 1,
             Fault::ImageRefused(_) => 2,
             Fault::FileFault => 4,
+            Fault::ConsoleFault => 5,
             Fault::ImageFault => 6,
             Fault::NoMemory => 7,
             Fault::NotEmpty { .. } => 8,
+            Fault::AsmRefused { .. } => 9,
         }
     }
 }
@@ -58,6 +65,17 @@ impl From<ImageFault> for Fault {
             ImageFault::Refused(refusal) => Fault::ImageRefused(refusal),
             ImageFault::ReadFault => Fault::ImageFault,
             ImageFault::NoMemory => Fault::NoMemory,
+        }
+    }
+}
+
+impl From<AsmFault> for Fault {
+    ghost from_gives = { λ e f. f ≡ fault_of_text e };
+
+    fn from(fault: AsmFault) -> Self {
+        match fault {
+            AsmFault::Line { line, kind } => Fault::AsmRefused { line, kind },
+            AsmFault::NoMemory => Fault::NoMemory,
         }
     }
 }

@@ -4,14 +4,17 @@
 
 mod answer;
 mod arguments;
+mod assembly;
 mod counted;
 mod device_text;
+mod fault_line;
 mod file_medium;
 mod file_source;
 mod head_text;
 mod job;
 mod layout;
 mod out_sink;
+mod parts;
 mod save;
 mod top;
 mod words;

@@ -15,7 +15,7 @@ use medium::{Failed, Medium};
 use ram_block::{NoMemory, PageBuf, Shape};
 use std::alloc::Global;
 
-/// Why there is no saved file.
+/// Why an output wasn't written.
 #[derive(Clone, Copy, Debug, PartialEq, Eq)]
 pub(crate) enum SaveFault {
     FileFault,

@@ -2,4 +2,12 @@
 #![tactic(auto)]
 
 #[cfg(test)]
+mod assembly;
+#[cfg(test)]
+mod fault_lines;
+#[cfg(test)]
 mod first_save;
+#[cfg(test)]
+mod guest;
+#[cfg(test)]
+mod jobs;

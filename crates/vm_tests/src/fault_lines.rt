@@ -1,0 +1,81 @@
+use crate::guest::{GUEST, SAVE, elf_of_the_guest};
+use crate::jobs::{failing_from, file, image, serve};
+use image_file::ElfKind;
+use image_file::ImageRefusal::Elf;
+use medium::MemSource;
+use std::test::Fail;
+use vm_cli::Fault;
+use vm_words::UsageKind;
+
+/// A line that isn't served, its fault, and what is printed.
+#[rattlefmt::skip]
+static OTHER_LINES: [(&[&str], Fault, &str); 15] = [
+    (&[], Fault::Usage { index: 0, kind: UsageKind::NoCommand }, "fault 1 usage 0 no-command\n"),
+    (&["stave", "image=a", "out=b"], Fault::Usage { index: 0, kind: UsageKind::Command }, "fault 1 usage 0 command\n"),
+    (&["asm", "image=a", "out"], Fault::Usage { index: 2, kind: UsageKind::NoEquals }, "fault 1 usage 2 no-equals\n"),
+    (&["asm", "image=a", "out=b", "pages=1"], Fault::Usage { index: 3, kind: UsageKind::Key }, "fault 1 usage 3 key\n"),
+    (&["save", "image=a", "out=b", "pages=1", "pages=1"], Fault::Usage { index: 4, kind: UsageKind::Twice }, "fault 1 usage 4 twice\n"),
+    (&["save", "image=", "out=b", "pages=1"], Fault::Usage { index: 1, kind: UsageKind::Value }, "fault 1 usage 1 value\n"),
+    (&["save", "image=a", "turns=1", "out=b"], Fault::Usage { index: 2, kind: UsageKind::Value }, "fault 1 usage 2 value\n"),
+    (&["save"], Fault::Usage { index: 1, kind: UsageKind::Missing }, "fault 1 usage 1 missing\n"),
+    (&["asm", "out=b"], Fault::Usage { index: 2, kind: UsageKind::Missing }, "fault 1 usage 2 missing\n"),
+    (
+        &["save", "image=a", "out=b", "vcpus=1", "blocks=1", "pages=1", "stop=0", "run=0", "mode=sliced", "seed=0", "key=a"],
+        Fault::Usage { index: 10, kind: UsageKind::Key },
+        "fault 1 usage 10 key\n",
+    ),
+    (&["save", "image=a", "out=b", "pages=2"], Fault::NotYet, "fault 1 not-yet\n"),
+    (&["save", "image=a", "out=b", "pages=1", "mode=threads"], Fault::NotYet, "fault 1 not-yet\n"),
+    (&["check", "in=a"], Fault::NotYet, "fault 1 not-yet\n"),
+    (&["workload", "out=a"], Fault::NotYet, "fault 1 not-yet\n"),
+    (&["record", "image=a", "out=b"], Fault::NotYet, "fault 1 not-yet\n"),
+];
+
+#[test]
+fn every_other_line_is_answered_before_the_image(rt: HostRuntime) -> Result<(), Fail> {
+    let alloc = rt.alloc();
+    for &(line, fault, printed) in &OTHER_LINES {
+        let guest = MemSource::new(GUEST.to_vec(alloc)?, failing_from(alloc, 1));
+        let output = file(alloc, &[], failing_from(alloc, 1))?;
+        let done = serve(alloc, line, guest, output)?;
+        assert_eq!(rt; done.end(), (1, Some(fault), printed));
+    }
+    Ok(())
+}
+
+/// A byte of the guest's ELF file that is changed, what is then wrong and at which place, and what is printed.
+#[rattlefmt::skip]
+static WRONG_BYTES: [(usize, u8, ElfKind, u64, &str); 8] = [
+    (4, 1, ElfKind::Class, 4, "fault 2 image elf class 4\n"),
+    (5, 2, ElfKind::Encoding, 5, "fault 2 image elf encoding 5\n"),
+    (18, 242, ElfKind::Machine, 18, "fault 2 image elf machine 18\n"),
+    (54, 57, ElfKind::EntrySize, 54, "fault 2 image elf entry-size 54\n"),
+    (56, 2, ElfKind::Table, 32, "fault 2 image elf table 32\n"),
+    (104, 7, ElfKind::Sizes, 96, "fault 2 image elf sizes 96\n"),
+    (72, 121, ElfKind::Range, 72, "fault 2 image elf range 72\n"),
+    (89, 0x10, ElfKind::Place, 88, "fault 2 image elf place 88\n"),
+];
+
+#[test]
+fn what_is_wrong_with_an_elf_file_is_printed_with_its_place(rt: HostRuntime) -> Result<(), Fail> {
+    let alloc = rt.alloc();
+    let right = elf_of_the_guest(0x8000_0000);
+    for &(byte, value, kind, at, printed) in &WRONG_BYTES {
+        let mut elf = right.to_vec(alloc)?;
+        if let Some(changed) = elf.get_mut(byte) {
+            *changed = value;
+        }
+        let output = file(alloc, &[], failing_from(alloc, 1))?;
+        let done = serve(alloc, &SAVE, image(alloc, &elf)?, output)?;
+        let fault = Fault::ImageRefused(Elf { kind, at });
+        assert_eq!(rt; done.end(), (2, Some(fault), printed));
+    }
+
+    let output = file(alloc, &[], failing_from(alloc, 1))?;
+    let short = right.get(..63).unwrap_or(&[]);
+    let done = serve(alloc, &SAVE, image(alloc, short)?, output)?;
+    let kind = ElfKind::Short;
+    let fault = Fault::ImageRefused(Elf { kind, at: 0 });
+    assert_eq!(rt; done.end(), (2, Some(fault), "fault 2 image elf short 0\n"));
+    Ok(())
+}
