@@ -1,5 +1,5 @@
-ghost use Rattle.std.specs.Prelude.{◌≡◌, ◌↔◌, ◌≤◌, IsSome, IfSome};
-ghost use Rattle.ram_block.specs.Cause.{code_of};
+ghost use Rattle.std.specs.Prelude.{◌≡◌, ◌↔◌, ◌≤◌, Some, IsSome, IfSome};
+ghost use Rattle.ram_block.specs.Cause.{cause_of, code_of};
 
 /// Why a vCPU is halted.
 #[derive(Clone, Copy, Debug, PartialEq, Eq)]
@@ -18,8 +18,10 @@ pub enum Cause {
 
 impl Cause {
     /// The code that stands for the cause in a file, from 1 to 10.
+    #[tactic(auto, unfolding(crate::specs::Cause::cause_of))]
     pub fn code(self) -> u8
-        ensures { result ≡ code_of self }
+        ensures code { result ≡ code_of self }
+        ensures read_back { cause_of result ≡ Some self }
     {
         match self {
             Cause::FetchMisaligned => 1,
@@ -36,9 +38,11 @@ impl Cause {
     }
 
     /// The cause with a code. No cause has another code than 1 to 10.
+    #[tactic(auto, unfolding(crate::specs::Cause::cause_of))]
     pub fn of_code(code: u8) -> Option<Cause>
+        ensures cause { result ≡ cause_of code }
         ensures known { IsSome result ↔ ((1 ≤ code) × (code ≤ 10)) }
-        ensures cause { IfSome result (λ cause. code_of cause ≡ code) }
+        ensures written_again { IfSome result (λ cause. code_of cause ≡ code) }
     {
         match code {
             1 => Some(Cause::FetchMisaligned),

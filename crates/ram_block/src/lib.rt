@@ -4,6 +4,7 @@
 
 mod cause;
 mod gate;
+mod limits;
 mod locate;
 mod no_memory;
 mod page_buf;
@@ -12,6 +13,7 @@ mod shape;
 
 pub use cause::Cause;
 pub use gate::{Gate, NoGate};
+pub use limits::{MAX_INPUT, MAX_PHASE, MAX_RAM, MOST_AT_REST};
 pub use no_memory::NoMemory;
 pub use page_buf::{PAGE, PageBuf};
 pub use place::{Place, SerialReg, TimerReg, Way, Width};

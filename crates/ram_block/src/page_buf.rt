@@ -1,4 +1,4 @@
-ghost use Rattle.std.specs.Prelude.{◌≡◌, length, IfOk};
+ghost use Rattle.std.specs.Prelude.{◌≡◌, ◌≤◌, ◌-◌, ◌++◌, length, replicate, IfOk};
 ghost use Rattle.std.specs.Borrow.{Lends, sem, Array, u8 as byte};
 ghost use Rattle.ram_block.specs.Page.{zero_page};
 ghost use Rattle.ram_block.specs.contracts.page_buf.PageBuf.{the_row};
@@ -32,6 +32,31 @@ impl PageBuf {
     {
         Ok(PageBuf {
             bytes: Box::new(alloc, [0; PAGE])?,
+        })
+    }
+
+    /// A page that begins with these bytes, and has zeros behind them.
+    #[tactic(auto, using(crate::proofs::Pages::zeros_behind))]
+    pub fn of_bytes(alloc: Global, bytes: &[u8]) -> Result<PageBuf, NoMemory>
+        requires { length bytes.now ≤ PAGE }
+        ensures bytes { IfOk result (λ page. page ≡ bytes.now ++ replicate (PAGE - length bytes.now) 0) }
+        ensures length { IfOk result (λ page. length page ≡ PAGE) }
+    {
+        let mut page = [0; PAGE];
+        page[..bytes.len()].copy_from_slice(bytes);
+        Ok(PageBuf {
+            bytes: Box::new(alloc, page)?,
+        })
+    }
+
+    /// The same page again.
+    pub fn copy(&self, alloc: Global) -> Result<PageBuf, NoMemory>
+        ensures same { IfOk result (λ page. page ≡ self.now) }
+        ensures length { length self.now ≡ PAGE }
+    {
+        prove!(self.bytes().len() == PAGE);
+        Ok(PageBuf {
+            bytes: Box::new(alloc, *self.bytes)?,
         })
     }
 

@@ -1,6 +1,6 @@
 ghost use Rattle.std.specs.Prelude.{◌≡◌, ◌↔◌, ◌≤◌, IsOk, IfOk};
 
-use crate::PAGE;
+use crate::{MAX_RAM, PAGE};
 use std::marker::Model;
 use thiserror::Error;
 
@@ -107,6 +107,7 @@ impl Shape {
     pub fn ram_bytes(&self) -> u64
         ensures value { result ≡ ram_bytes_of self.now }
         ensures limits { IsShape self.now }
+        ensures most { result ≤ MAX_RAM }
     {
         u64::from(self.total_pages()) * PAGE as u64
     }

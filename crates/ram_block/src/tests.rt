@@ -10,7 +10,34 @@ fn a_new_page_has_4096_zeros(rt: HostRuntime) -> Result<(), Fail> {
     let mut copy = PageBuf::new(rt.alloc())?;
     copy.copy_from(&page);
     assert_eq!(rt; copy.bytes()[4095], 7);
+    assert_eq!(rt; page.copy(rt.alloc())?.bytes()[4095], 7);
     Ok(())
+}
+
+#[test]
+fn a_page_of_bytes_ends_with_zeros(rt: HostRuntime) -> Result<(), Fail> {
+    let whole = [9; 4096];
+    for count in [0, 1, 4095, 4096] {
+        let page = PageBuf::of_bytes(rt.alloc(), &whole[..count])?;
+        assert_eq!(rt; page.bytes().len(), 4096);
+        for (place, byte) in page.bytes().iter().enumerate() {
+            assert_eq!(rt;
+                *byte,
+                if place < count { 9 } else { 0 },
+                "{count} bytes, at {place}"
+            );
+        }
+    }
+    Ok(())
+}
+
+// Proofs take these from the code, so here they are written out.
+#[test]
+fn the_limits_that_crates_share(rt: HostRuntime) {
+    assert_eq!(rt; MAX_PHASE, 1_000_000);
+    assert_eq!(rt; MAX_INPUT, 4_096);
+    assert_eq!(rt; MOST_AT_REST, 4_611_686_018_427_387_904);
+    assert_eq!(rt; MAX_RAM, 67_108_864);
 }
 
 #[test]
@@ -105,13 +132,7 @@ static WAYS: [(Way, Cause, Cause); 4] = [
 #[test]
 fn a_device_has_the_rows_of_the_map_and_no_other_access(rt: HostRuntime) -> Result<(), Fail> {
     let shape = Shape::new(1, 1, 1)?;
-    for addr in [
-        0x1000_0000,
-        0x1000_0005,
-        0x0200_0000,
-        0x0200_0008,
-        0x0200_0010,
-    ] {
+    for &(addr, ..) in &ROWS {
         for &(width, bytes) in &WIDTHS {
             for &(way, misaligned, outside) in &WAYS {
                 let mut answer = Err(if addr % bytes == 0 {
