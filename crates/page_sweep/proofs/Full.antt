@@ -3,14 +3,15 @@ use Rattle.std.proofs.Common.{◌≡◌, ℕ, zero, suc, ◌+◌, ◌-◌, ◌<�
 use Rattle.std.specs.List.{IsDistinct, range_with_len}
 use Rattle.std.proofs.lemmas.Bool.{cases_Bool, eqb-false, eqb-true}
 use Rattle.std.specs.List.Sorted.{IsStrictlyIncreasing}
-use Rattle.page_sweep.specs.Links.{first_or, link_of, walked, IsLinked}
-use Rattle.page_sweep.specs.Sweep.{is_left, IsSweep, SweepData}
+use Rattle.page_sweep.specs.Links.{IsLinked}
+use Rattle.ram_block.specs.PageLinks.{is_listed, first_or, link_of, walked}
+use Rattle.page_sweep.specs.Sweep.{IsSweep, SweepData}
 use Rattle.std.proofs.lemmas.List.{get_or-reverse, length-reverse}
 use Rattle.std.proofs.lemmas.List.Elements.{All-from_get_or}
 use Rattle.std.proofs.lemmas.List.FromFn.{get_or-range_with_len, length-range_with_len, get_or-map-range_with_len, length-map-range_with_len}
 use Rattle.std.proofs.lemmas.Option.{slice_get-get_or}
-use Rattle.page_sweep.proofs.Lists.{head_absent, left_below, link_of-at}
-use Rattle.page_sweep.proofs.Mirror.{reverse-cons, is_left-reverse, IsDistinct-reverse, link_of-mirror}
+use Rattle.ram_block.proofs.LinkedPages.{head_absent, listed_below, link_of-at}
+use Rattle.page_sweep.proofs.Mirror.{reverse-cons, is_listed-reverse, IsDistinct-reverse, link_of-mirror}
 use Rattle.page_sweep.proofs.Linked.{chain, distinct_ascending}
 
 -- the pages from a on ascend
@@ -51,7 +52,7 @@ link_of-range_back pages zero h = first pages pages h (distinct_ascending (range
   where
     first : (n m : ℕ) → 0 < n → IsDistinct eqb (range_with_len 0 n) → link_of m (reverse (range_with_len 0 n)) 0 ≡ 0
     first zero m l d = absurd (omega arith)
-    first (suc n) m l d = rw reverse-cons (link_of-at m (reverse (range_with_len 1 n)) 0 [] (is_left-reverse (range_with_len 1 n) 0 ∙ head_absent 0 (range_with_len 1 n) d))
+    first (suc n) m l d = rw reverse-cons (link_of-at m (reverse (range_with_len 1 n)) 0 [] (is_listed-reverse (range_with_len 1 n) 0 ∙ head_absent 0 (range_with_len 1 n) d))
 link_of-range_back pages (suc x) h =
     let up : link_of pages (range_with_len 0 pages) x ≡ suc x = link_of-range pages 0 pages x (omega arith) (omega arith) ∙ omega arith in
     link_of-mirror pages (range_with_len 0 pages) x (suc x) (distinct_ascending (range_with_len 0 pages) (ascending_range 0 pages)) (omega arith) h (λ same. omega arith) up ∙ omega arith
@@ -62,12 +63,12 @@ full_linked : (pages : ℕ) (next prev : List ℕ) (first last : Option ℕ) →
 full_linked pages next prev first last n b f l =
     let q = range_with_len 0 pages in
     let distinct : IsDistinct eqb q = distinct_ascending q (ascending_range 0 pages) in
-    let below : (x : ℕ) → is_left q x ≡ true → x < pages = left_below pages q (full_sweep pages).below in
+    let below : (x : ℕ) → is_listed q x ≡ true → x < pages = listed_below pages q (full_sweep pages).below in
     record {
       forth = chain pages next first q (rw n (length-map-range_with_len _ 0 pages))
           (λ x h. rw n (get_or-map-range_with_len (λ p. min (p + 1) (pages - 1)) 0 pages x x 0 h (omega arith) ∙ sym (link_of-range pages 0 pages x (omega arith) (omega arith) ∙ ap (λ (n : ℕ). min (x + 1) (n - 1)) (omega arith)))) f distinct below;
       back = chain pages prev last (reverse q) (rw b (length-map-range_with_len _ 0 pages))
-          (λ x h. rw b (get_or-map-range_with_len (λ p. p - 1) 0 pages x x 0 h (omega arith) ∙ sym (link_of-range_back pages x h))) l (IsDistinct-reverse q distinct) (λ x e. below x (sym (is_left-reverse q x) ∙ e));
+          (λ x h. rw b (get_or-map-range_with_len (λ p. p - 1) 0 pages x x 0 h (omega arith) ∙ sym (link_of-range_back pages x h))) l (IsDistinct-reverse q distinct) (λ x e. below x (sym (is_listed-reverse q x) ∙ e));
       count = sym (length-range_with_len 0 pages);
       sweep = full_sweep pages;
     }

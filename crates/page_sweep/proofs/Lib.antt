@@ -1,4 +1,3 @@
-pub mod Lists
 pub mod Mirror
 pub mod Removed
 pub mod Linked

@@ -2,20 +2,19 @@
 use Rattle.std.proofs.Common.{◌≡◌, ℕ, ◌<◌, true, false, List, [], ◌∷◌, ◌++◌, reverse, eqb, sym, ◌∙◌, arith, eq-eqb, inl, inr, append_assoc}
 use Rattle.std.specs.List.{IsDistinct}
 use Rattle.std.proofs.lemmas.Bool.{cases_Bool, or_parts, eqb-false, eqb-true, true≢false}
-use Rattle.page_sweep.specs.Links.{first_or, link_of}
-use Rattle.page_sweep.specs.Sweep.{is_left}
+use Rattle.ram_block.specs.PageLinks.{is_listed, first_or, link_of}
 use Rattle.std.proofs.lemmas.Grind.{reverse_onto}
 use Rattle.std.proofs.lemmas.List.Sorted.{IsPermutation-reverse, list_any-IsPermutation}
 use Rattle.std.proofs.lemmas.Map.Keys.{IsDistinct-tail, IsDistinct-IsPermutation}
-use Rattle.page_sweep.proofs.Lists.{apart, head_absent, link_of-at}
+use Rattle.ram_block.proofs.LinkedPages.{apart, head_absent, link_of-at}
 
 -- the first of a list is the last of it backwards
 pub reverse-cons : (a : ℕ) (q : List ℕ) → reverse (a ∷ q) ≡ reverse q ++ a ∷ []
 reverse-cons a q = reverse_onto q a []
 
 -- the same pages are in the list backwards
-pub is_left-reverse : (q : List ℕ) (p : ℕ) → is_left (reverse q) p ≡ is_left q p
-is_left-reverse q p = sym (list_any-IsPermutation (eqb p) q (reverse q) (IsPermutation-reverse q))
+pub is_listed-reverse : (q : List ℕ) (p : ℕ) → is_listed (reverse q) p ≡ is_listed q p
+is_listed-reverse q p = sym (list_any-IsPermutation (eqb p) q (reverse q) (IsPermutation-reverse q))
 
 -- a test of two numbers gives the same answer either way round
 eqb-comm : (a b : ℕ) → eqb a b ≡ eqb b a
@@ -51,11 +50,11 @@ link_of-mirror pages (a ∷ r) x p d x_below p_below other e = elim (cases_Bool 
     at_first : (s : List ℕ) → IsDistinct eqb (a ∷ s) → first_or x s ≡ p → x ≡ a → link_of pages (reverse (a ∷ s)) p ≡ x
     at_first [] f h same = absurd (other h)
     at_first (b ∷ s) f h same =
-        let absent : is_left (reverse s) b ≡ false = is_left-reverse s b ∙ head_absent b s (IsDistinct-tail eqb a (b ∷ s) f) in
+        let absent : is_listed (reverse s) b ≡ false = is_listed-reverse s b ∙ head_absent b s (IsDistinct-tail eqb a (b ∷ s) f) in
         rw (← h, reverse-cons a (b ∷ s), reverse-cons b s, append_assoc) (link_of-at pages (reverse s) b (a ∷ []) absent ∙ sym same)
 
 -- a page that stands before the last isn't last
-pub not_last : (pages : ℕ) (q : List ℕ) (a p : ℕ) → is_left q p ≡ true → IsDistinct eqb (q ++ a ∷ []) → link_of pages (q ++ a ∷ []) p ≡ p → ⊥
+pub not_last : (pages : ℕ) (q : List ℕ) (a p : ℕ) → is_listed q p ≡ true → IsDistinct eqb (q ++ a ∷ []) → link_of pages (q ++ a ∷ []) p ≡ p → ⊥
 not_last pages [] a p here d e = true≢false (sym here)
 not_last pages (b ∷ q) a p here d e = elim (cases_Bool (eqb p b)) [
   | inl same ↦ not_first q d (rw same at e) (eqb-true p b same)
@@ -64,4 +63,4 @@ not_last pages (b ∷ q) a p here d e = elim (cases_Bool (eqb p b)) [
   where
     not_first : (r : List ℕ) → IsDistinct eqb (b ∷ (r ++ a ∷ [])) → first_or p (r ++ a ∷ []) ≡ p → p ≡ b → ⊥
     not_first [] f h same = eqb-false b a (or_parts (eqb b a) false (head_absent b (a ∷ []) f)).0 (sym (h ∙ same))
-    not_first (c ∷ r) f h same = eqb-false b c (or_parts (eqb b c) (is_left (r ++ a ∷ []) b) (head_absent b (c ∷ (r ++ a ∷ [])) f)).0 (sym (h ∙ same))
+    not_first (c ∷ r) f h same = eqb-false b c (or_parts (eqb b c) (is_listed (r ++ a ∷ []) b) (head_absent b (c ∷ (r ++ a ∷ [])) f)).0 (sym (h ∙ same))

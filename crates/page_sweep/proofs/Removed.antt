@@ -2,22 +2,22 @@
 use Rattle.std.proofs.Common.{◌≡◌, ℕ, ◌+◌, ◌<◌, true, false, not, List, [], ◌∷◌, length, reverse, eqb, sym, ◌∙◌, refl, arith, eq-eqb, ne_eqb, inl, inr, append-nil, if◌then◌else◌, ◌==◌}
 use Rattle.std.specs.List.{IsDistinct}
 use Rattle.std.proofs.lemmas.Bool.{cases_Bool, or_left, or_parts, or_right, eqb-true, both_ways, true≢false}
-use Rattle.page_sweep.specs.Links.{first_or, link_of}
-use Rattle.page_sweep.specs.Sweep.{is_left, without}
+use Rattle.ram_block.specs.PageLinks.{is_listed, first_or, link_of}
+use Rattle.page_sweep.specs.Sweep.{without}
 use Rattle.std.proofs.lemmas.List.Elements.{filter-append}
 use Rattle.std.proofs.lemmas.Map.Keys.{IsDistinct-tail}
-use Rattle.page_sweep.proofs.Lists.{apart, head_absent}
+use Rattle.ram_block.proofs.LinkedPages.{apart, head_absent}
 use Rattle.page_sweep.proofs.Mirror.{reverse-cons}
 
 -- a page that isn't in the list can't be taken out
-pub without-absent : (q : List ℕ) (p : ℕ) → is_left q p ≡ false → without q p ≡ q
+pub without-absent : (q : List ℕ) (p : ℕ) → is_listed q p ≡ false → without q p ≡ q
 without-absent [] p h = refl
 without-absent (a ∷ q) p h =
-    let parts = or_parts (eqb p a) (is_left q p) h in
+    let parts = or_parts (eqb p a) (is_listed q p) h in
     rw (parts.0, without-absent q p parts.1) refl
 
 -- a page that was taken out isn't in the list
-pub absent-without : (q : List ℕ) (p : ℕ) → is_left (without q p) p ≡ false
+pub absent-without : (q : List ℕ) (p : ℕ) → is_listed (without q p) p ≡ false
 absent-without [] p = refl
 absent-without (a ∷ q) p = elim (cases_Bool (eqb p a)) [
   | inl same ↦ rw same (absent-without q p)
@@ -25,11 +25,11 @@ absent-without (a ∷ q) p = elim (cases_Bool (eqb p a)) [
 ]
 
 -- a list without doubles has one page less then
-pub length-without : (q : List ℕ) (p : ℕ) → IsDistinct eqb q → is_left q p ≡ true → length q ≡ length (without q p) + 1
+pub length-without : (q : List ℕ) (p : ℕ) → IsDistinct eqb q → is_listed q p ≡ true → length q ≡ length (without q p) + 1
 length-without [] p d here = absurd (true≢false (sym here))
 length-without (a ∷ q) p d here = elim (cases_Bool (eqb p a)) [
   | inl same ↦
-      let absent : is_left q p ≡ false = rw (eqb-true p a same) (head_absent a q d) in
+      let absent : is_listed q p ≡ false = rw (eqb-true p a same) (head_absent a q d) in
       rw (same, without-absent q p absent) (omega arith)
   | inr other ↦
       let rest = length-without q p (IsDistinct-tail eqb a q d) (rw other at here) in
@@ -47,16 +47,16 @@ without-reverse (a ∷ q) p =
     ]
 
 -- a page that another is linked to is in the list
-pub link_in : (pages : ℕ) (q : List ℕ) (x p : ℕ) → p < pages → (x ≡ p → ⊥) → link_of pages q x ≡ p → is_left q p ≡ true
+pub link_in : (pages : ℕ) (q : List ℕ) (x p : ℕ) → p < pages → (x ≡ p → ⊥) → link_of pages q x ≡ p → is_listed q p ≡ true
 link_in pages [] x p below other e = absurd (omega arith)
 link_in pages (a ∷ q) x p below other e = elim (cases_Bool (eqb x a)) [
-  | inl same ↦ or_right (eqb p a) (is_left q p) (second q (rw same at e))
-  | inr differs ↦ or_right (eqb p a) (is_left q p) (link_in pages q x p below other (rw differs at e))
+  | inl same ↦ or_right (eqb p a) (is_listed q p) (second q (rw same at e))
+  | inr differs ↦ or_right (eqb p a) (is_listed q p) (link_in pages q x p below other (rw differs at e))
 ]
   where
-    second : (r : List ℕ) → first_or x r ≡ p → is_left r p ≡ true
+    second : (r : List ℕ) → first_or x r ≡ p → is_listed r p ≡ true
     second [] h = absurd (other h)
-    second (b ∷ r) h = or_left (eqb p b) (is_left r p) (eq-eqb p b (sym h))
+    second (b ∷ r) h = or_left (eqb p b) (is_listed r p) (eq-eqb p b (sym h))
 
 -- the link of a page to another page than p stays
 pub link_of-without : (pages : ℕ) (q : List ℕ) (p x : ℕ) → (x ≡ p → ⊥) → (link_of pages q x ≡ p → ⊥) → link_of pages (without q p) x ≡ link_of pages q x
@@ -82,7 +82,7 @@ link_of-mended pages [] p x d below other e = absurd (omega arith)
 link_of-mended pages (a ∷ q) p x d below other e = elim (cases_Bool (eqb p a)) [
   | inl same ↦
       let differs : eqb x a ≡ false = ne_eqb x a (λ h. other (h ∙ sym (eqb-true p a same))) in
-      let absent : is_left q p ≡ false = rw (eqb-true p a same) (head_absent a q d) in
+      let absent : is_listed q p ≡ false = rw (eqb-true p a same) (head_absent a q d) in
       absurd (both_ways _ absent (link_in pages q x p below other (rw differs at e)))
   | inr kept ↦ elim (cases_Bool (eqb x a)) [
     | inl same ↦ rw (kept, same) (second q (IsDistinct-tail eqb a q d) (rw same at e))
@@ -92,7 +92,7 @@ link_of-mended pages (a ∷ q) p x d below other e = elim (cases_Bool (eqb p a))
   where
     third : (s : List ℕ) → IsDistinct eqb (p ∷ s) → first_or x s ≡ (if first_or p s == p then x else first_or p s)
     third [] f = rw (eq-eqb p p refl) refl
-    third (c ∷ s) f = rw (apart p c (or_parts (eqb p c) (is_left s p) (head_absent p (c ∷ s) f)).0) refl
+    third (c ∷ s) f = rw (apart p c (or_parts (eqb p c) (is_listed s p) (head_absent p (c ∷ s) f)).0) refl
 
     second : (r : List ℕ) → IsDistinct eqb r → first_or x r ≡ p → first_or x (without r p) ≡ (if link_of pages r p == p then x else link_of pages r p)
     second [] f h = absurd (other h)

@@ -2,30 +2,31 @@
 use Rattle.std.proofs.Common.{◌≡◌, ℕ, ◌-◌, ◌<◌, ◌≤◌, true, false, not, List, length, reverse, Option, eqb, get_or, sym, ap, ◌∙◌, refl, arith, inl, inr, subst}
 use Rattle.std.specs.List.{IsDistinct}
 use Rattle.std.proofs.lemmas.Bool.{cases_Bool}
-use Rattle.page_sweep.specs.Links.{link_of, walked, links_without, start_without, IsLinked}
-use Rattle.page_sweep.specs.Sweep.{is_left, without, IsSweep, SweepData}
+use Rattle.page_sweep.specs.Links.{links_without, start_without, IsLinked}
+use Rattle.ram_block.specs.PageLinks.{is_listed, link_of, walked}
+use Rattle.page_sweep.specs.Sweep.{without, IsSweep, SweepData}
 use Rattle.std.proofs.lemmas.Grind.{get_or_default_zero}
 use Rattle.std.proofs.lemmas.List.{reverse-reverse}
 use Rattle.std.proofs.lemmas.List.Elements.{All-filter}
 use Rattle.std.proofs.lemmas.List.Kept.{IsStrictlyIncreasing-filter}
-use Rattle.page_sweep.proofs.Lists.{link_of-absent, link_of-present, left_below}
-use Rattle.page_sweep.proofs.Mirror.{is_left-reverse, IsDistinct-reverse}
+use Rattle.ram_block.proofs.LinkedPages.{link_of-absent, link_of-present, listed_below}
+use Rattle.page_sweep.proofs.Mirror.{is_listed-reverse, IsDistinct-reverse}
 use Rattle.page_sweep.proofs.Removed.{length-without, without-reverse}
 use Rattle.page_sweep.proofs.Linked.{distinct_ascending}
 use Rattle.page_sweep.proofs.Unlinked.{unlinked}
 
 -- a page's link tells whether it is left
-pub tells_absent : (pages : ℕ) (q : List ℕ) (p : ℕ) → IsSweep (record { pages = pages; list = q }) → link_of pages q p ≡ pages → is_left q p ≡ false
-tells_absent pages q p k e = elim (cases_Bool (is_left q p)) [
+pub tells_absent : (pages : ℕ) (q : List ℕ) (p : ℕ) → IsSweep (record { pages = pages; list = q }) → link_of pages q p ≡ pages → is_listed q p ≡ false
+tells_absent pages q p k e = elim (cases_Bool (is_listed q p)) [
   | inl here ↦
-      let page : link_of pages q p < pages = link_of-present pages q p (left_below pages q k.below) here in
+      let page : link_of pages q p < pages = link_of-present pages q p (listed_below pages q k.below) here in
       absurd (omega arith)
   | inr absent ↦ absent
 ]
 
 -- and so does another link
-tells_left : (pages : ℕ) (q : List ℕ) (p : ℕ) → (link_of pages q p ≡ pages → ⊥) → is_left q p ≡ true
-tells_left pages q p e = elim (cases_Bool (is_left q p)) [
+tells_left : (pages : ℕ) (q : List ℕ) (p : ℕ) → (link_of pages q p ≡ pages → ⊥) → is_listed q p ≡ true
+tells_left pages q p e = elim (cases_Bool (is_listed q p)) [
   | inl here ↦ here
   | inr absent ↦ absurd (e (link_of-absent pages q p absent))
 ]
@@ -35,7 +36,7 @@ pub record IsRemoved (d : SweepData) (p pages : ℕ) (next prev : List ℕ) (fir
   pub linked : IsLinked pages next prev first last left (walked first next)
   pub same_pages : pages ≡ d.pages
   pub rest : walked first next ≡ without d.list p
-  pub here : is_left d.list p ≡ true
+  pub here : is_listed d.list p ≡ true
 
 module _ (d : SweepData) (p pages : ℕ) (next prev : List ℕ) (first last : Option ℕ) (left after : ℕ)
     (view_is : ◌≡◌ {A = SweepData} (record { pages = pages; list = walked first next }) d) (k : IsLinked pages next prev first last left (walked first next)) (below : p < d.pages) (after_is : after ≡ get_or next p after) where
@@ -48,11 +49,11 @@ module _ (d : SweepData) (p pages : ℕ) (next prev : List ℕ) (first last : Op
   after_link = sym (k.forth.same_links p page_below) ∙ sym (after_is ∙ get_or_default_zero next p after (rw k.forth.same_length page_below))
 
   -- where it is the number of pages, the page isn't left
-  pub stays : after ≡ pages → is_left d.list p ≡ false
-  stays e = ap (λ (x : SweepData). is_left x.list p) (sym view_is) ∙ tells_absent pages (walked first next) p k.sweep (after_link ∙ e)
+  pub stays : after ≡ pages → is_listed d.list p ≡ false
+  stays e = ap (λ (x : SweepData). is_listed x.list p) (sym view_is) ∙ tells_absent pages (walked first next) p k.sweep (after_link ∙ e)
 
   module _ (there : after ≡ pages → ⊥) (before : ℕ) (before_is : before ≡ get_or prev p before) where
-    here : is_left (walked first next) p ≡ true
+    here : is_listed (walked first next) p ≡ true
     here = tells_left pages (walked first next) p (λ e. there (sym after_link ∙ e))
 
     -- so is the page before that was read
@@ -60,12 +61,12 @@ module _ (d : SweepData) (p pages : ℕ) (next prev : List ℕ) (first last : Op
     before_link = sym (k.back.same_links p page_below) ∙ sym (before_is ∙ get_or_default_zero prev p before (rw k.back.same_length page_below))
 
     -- the pages of the list are below the number of pages
-    pages_below : (x : ℕ) → is_left (walked first next) x ≡ true → x < pages
-    pages_below = left_below pages (walked first next) k.sweep.below
+    pages_below : (x : ℕ) → is_listed (walked first next) x ≡ true → x < pages
+    pages_below = listed_below pages (walked first next) k.sweep.below
 
     -- so are those of the list backwards
-    pages_below_back : (x : ℕ) → is_left (reverse (walked first next)) x ≡ true → x < pages
-    pages_below_back x e = pages_below x (sym (is_left-reverse (walked first next) x) ∙ e)
+    pages_below_back : (x : ℕ) → is_listed (reverse (walked first next)) x ≡ true → x < pages
+    pages_below_back x e = pages_below x (sym (is_listed-reverse (walked first next) x) ∙ e)
 
     -- the page after is a page
     pub after_below : after < length prev
@@ -73,7 +74,7 @@ module _ (d : SweepData) (p pages : ℕ) (next prev : List ℕ) (first last : Op
 
     -- the page before is a page
     pub before_below : before < length next
-    before_below = rw (k.forth.same_length, ← before_link) (link_of-present pages (reverse (walked first next)) p pages_below_back (is_left-reverse (walked first next) p ∙ here))
+    before_below = rw (k.forth.same_length, ← before_link) (link_of-present pages (reverse (walked first next)) p pages_below_back (is_listed-reverse (walked first next) p ∙ here))
 
     -- page p is left
     pub some_left : 1 ≤ left
@@ -90,7 +91,7 @@ module _ (d : SweepData) (p pages : ℕ) (next prev : List ℕ) (first last : Op
         let one = length-without q p distinct here in
         record {
           forth = unlinked pages next first q before p after k.forth distinct pages_below here after_link before_link;
-          back = rw (without-reverse q p) (unlinked pages prev last (reverse q) after p before k.back (IsDistinct-reverse q distinct) pages_below_back (is_left-reverse q p ∙ here) before_link after_back);
+          back = rw (without-reverse q p) (unlinked pages prev last (reverse q) after p before k.back (IsDistinct-reverse q distinct) pages_below_back (is_listed-reverse q p ∙ here) before_link after_back);
           count = omega (arith, k.count);
           sweep = record {
             ascending = IsStrictlyIncreasing-filter (λ a. not (eqb p a)) q k.sweep.ascending;
@@ -107,7 +108,7 @@ module _ (d : SweepData) (p pages : ℕ) (next prev : List ℕ) (first last : Op
           linked = subst (IsLinked pages next' prev' first' last' (left - 1)) (sym made.forth.walks) made;
           same_pages = ap (λ (x : SweepData). x.pages) view_is;
           rest = made.forth.walks ∙ ap (λ (x : SweepData). without x.list p) view_is;
-          here = ap (λ (x : SweepData). is_left x.list p) (sym view_is) ∙ here;
+          here = ap (λ (x : SweepData). is_listed x.list p) (sym view_is) ∙ here;
         }
 
 -- what contracts see then

@@ -2,12 +2,13 @@
 use Rattle.std.proofs.Common.{◌≡◌, ℕ, ◌<◌, true, false, List, [], ◌∷◌, ◌++◌, length, reverse, Option, Some, None, eqb, get_or, set, slice_get, sym, ap, ◌∙◌, refl, eq-eqb, ne_eqb, inl, inr, subst}
 use Rattle.std.specs.List.{IsDistinct}
 use Rattle.std.proofs.lemmas.Bool.{cases_Bool, cases_eq, or_parts, eqb-false, eqb-true, true≢false}
-use Rattle.page_sweep.specs.Links.{first_or, link_of, links_without, start_without, IsChain}
-use Rattle.page_sweep.specs.Sweep.{is_left, without}
+use Rattle.page_sweep.specs.Links.{links_without, start_without, IsChain}
+use Rattle.ram_block.specs.PageLinks.{is_listed, first_or, link_of}
+use Rattle.page_sweep.specs.Sweep.{without}
 use Rattle.std.proofs.Common.{if◌then◌else◌, ◌==◌, length-set}
 use Rattle.std.proofs.lemmas.List.{get_or-set_same, get_or-set_other, reverse-reverse}
-use Rattle.page_sweep.proofs.Lists.{head_absent, link_of-absent, link_of-present, link_of-at}
-use Rattle.page_sweep.proofs.Mirror.{reverse-cons, is_left-reverse, IsDistinct-reverse, link_of-mirror, not_last}
+use Rattle.ram_block.proofs.LinkedPages.{head_absent, link_of-absent, link_of-present, link_of-at}
+use Rattle.page_sweep.proofs.Mirror.{reverse-cons, is_listed-reverse, IsDistinct-reverse, link_of-mirror, not_last}
 use Rattle.page_sweep.proofs.Removed.{without-absent, absent-without, link_of-without, link_of-mended}
 use Rattle.page_sweep.proofs.Linked.{chain, distinct_without, left_without}
 
@@ -24,10 +25,10 @@ length-mended links before p after = elim (cases_Bool (eqb before p)) [
 
 -- One direction: page p stands between \`before\` and \`after\` in the list q.
 module _ (pages : ℕ) (links : List ℕ) (start : Option ℕ) (q : List ℕ) (before p after : ℕ) (k : IsChain pages links start q) (d : IsDistinct eqb q)
-    (below : (x : ℕ) → is_left q x ≡ true → x < pages) (here : is_left q p ≡ true) (after_is : link_of pages q p ≡ after) (before_is : link_of pages (reverse q) p ≡ before) where
+    (below : (x : ℕ) → is_listed q x ≡ true → x < pages) (here : is_listed q p ≡ true) (after_is : link_of pages q p ≡ after) (before_is : link_of pages (reverse q) p ≡ before) where
   -- the page before is a page
   before_page : before < pages
-  before_page = subst (λ (x : ℕ). x < pages) before_is (link_of-present pages (reverse q) p (λ x e. below x (sym (is_left-reverse q x) ∙ e)) (is_left-reverse q p ∙ here))
+  before_page = subst (λ (x : ℕ). x < pages) before_is (link_of-present pages (reverse q) p (λ x e. below x (sym (is_listed-reverse q x) ∙ e)) (is_listed-reverse q p ∙ here))
 
   -- only the page before is linked to p
   only_before : (x : ℕ) → x < pages → (x ≡ p → ⊥) → link_of pages q x ≡ p → before ≡ x
@@ -56,19 +57,19 @@ module _ (pages : ℕ) (links : List ℕ) (start : Option ℕ) (q : List ℕ) (b
       second_of : (a : ℕ) (r : List ℕ) → IsDistinct eqb (a ∷ r) → first_or p r ≡ after → p ≡ a → (if after == p then None else Some after) ≡ slice_get r 0
       second_of a [] e f same = rw (eq-eqb after p (sym f)) refl
       second_of a (b ∷ r) e f same =
-          let apart : eqb a b ≡ false = (or_parts (eqb a b) (is_left r a) (head_absent a (b ∷ r) e)).0 in
+          let apart : eqb a b ≡ false = (or_parts (eqb a b) (is_listed r a) (head_absent a (b ∷ r) e)).0 in
           rw (ne_eqb after p (λ h. eqb-false a b apart (sym same ∙ sym h ∙ sym f))) (ap (λ (x : ℕ). Some x) (sym f))
 
-      first_of : (r : List ℕ) → IsDistinct eqb r → is_left r p ≡ true → link_of pages r p ≡ after → link_of pages (reverse r) p ≡ before → start ≡ slice_get r 0
+      first_of : (r : List ℕ) → IsDistinct eqb r → is_listed r p ≡ true → link_of pages r p ≡ after → link_of pages (reverse r) p ≡ before → start ≡ slice_get r 0
           → start_without start before p after ≡ slice_get (without r p) 0
       first_of [] e at f g b = absurd (true≢false (sym at))
       first_of (a ∷ r) e at f g b = elim (cases_Bool (eqb p a)) [
         | inl same ↦
-            let absent : is_left r p ≡ false = rw (eqb-true p a same) (head_absent a r e) in
-            let last : link_of pages (reverse (a ∷ r)) p ≡ p = rw (eqb-true p a same, reverse-cons a r) (link_of-at pages (reverse r) a [] (is_left-reverse r a ∙ head_absent a r e)) in
+            let absent : is_listed r p ≡ false = rw (eqb-true p a same) (head_absent a r e) in
+            let last : link_of pages (reverse (a ∷ r)) p ≡ p = rw (eqb-true p a same, reverse-cons a r) (link_of-at pages (reverse r) a [] (is_listed-reverse r a ∙ head_absent a r e)) in
             rw (eq-eqb before p (sym g ∙ last), same, without-absent r p absent) (second_of a r e (rw same at f) (eqb-true p a same))
         | inr other ↦
-            let within : is_left (reverse r) p ≡ true = is_left-reverse r p ∙ rw other at at in
+            let within : is_listed (reverse r) p ≡ true = is_listed-reverse r p ∙ rw other at at in
             let backwards : IsDistinct eqb (reverse r ++ a ∷ []) = rw reverse-cons at (IsDistinct-reverse (a ∷ r) e) in
             let link : link_of pages (reverse r ++ a ∷ []) p ≡ before = rw reverse-cons at g in
             rw (ne_eqb before p (λ h. not_last pages (reverse r) a p within backwards (link ∙ h)), other) b

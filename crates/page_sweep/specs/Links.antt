@@ -1,26 +1,7 @@
--- A list of pages as links by page number, in both directions (this project's own, docs/ARCHITECTURE.md).
-use Rattle.std.specs.Prelude.{◌≡◌, ℕ, zero, suc, ◌<◌, ◌==◌, List, [], ◌∷◌, length, reverse, Option, Some, None, slice_get, slice_index, slice_set, if◌then◌else◌}
+-- The pages left as links by page number, in both directions (this project's own, docs/ARCHITECTURE.md).
+use Rattle.std.specs.Prelude.{◌≡◌, ℕ, ◌<◌, ◌==◌, List, length, reverse, Option, Some, None, slice_get, slice_index, slice_set, if◌then◌else◌}
+use Rattle.ram_block.specs.PageLinks.{link_of, walked}
 use Rattle.page_sweep.specs.Sweep.{IsSweep}
-
--- the first of the list, or p where it is empty
-abbrev pub first_or : ℕ → List ℕ → ℕ
-first_or p [] = p
-first_or p (a ∷ q) = a
-
--- the page after p, p where it is last, and the number of pages where p isn't in the list
-abbrev pub link_of : ℕ → List ℕ → ℕ → ℕ
-link_of pages [] p = pages
-link_of pages (a ∷ q) p = if p == a then first_or p q else link_of pages q p
-
--- the pages met from p on along the links, at most n of them
-abbrev pub walk : ℕ → List ℕ → ℕ → List ℕ
-walk zero links p = []
-walk (suc n) links p = p ∷ (if slice_index links p == p then [] else walk n links (slice_index links p))
-
--- the list that the links of one direction stand for
-abbrev pub walked : Option ℕ → List ℕ → List ℕ
-walked None links = []
-walked (Some p) links = walk (length links) links p
 
 -- the links once page p between two others is out of them: `before` is p where p was first, and `after` where it was last
 abbrev pub links_without : List ℕ → ℕ → ℕ → ℕ → ℕ → List ℕ

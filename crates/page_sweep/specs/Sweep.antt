@@ -1,16 +1,12 @@
 -- The pages that the saver has left, in ascending order (this project's own, docs/ARCHITECTURE.md).
-use Rattle.std.specs.Prelude.{ℕ, ◌<◌, Bool, not, nat_eq, List, All}
-use Rattle.std.specs.List.{list_any, filter}
+use Rattle.std.specs.Prelude.{ℕ, ◌<◌, not, nat_eq, List, All}
+use Rattle.std.specs.List.{filter}
 use Rattle.std.specs.List.Sorted.{IsStrictlyIncreasing}
 
 -- how many pages there are, and those that are left, in ascending order
 pub record SweepData : Type 0 where
   pub pages : ℕ
   pub list : List ℕ
-
--- whether page p is left
-abbrev pub is_left : List ℕ → ℕ → Bool
-is_left q p = list_any (nat_eq p) q
 
 -- the pages but p
 abbrev pub without : List ℕ → ℕ → List ℕ

@@ -21,7 +21,8 @@ pub struct Sweep {
 
 impl Model for Sweep {
     ghost use Rattle.page_sweep.specs.Sweep.{SweepData};
-    ghost use Rattle.page_sweep.specs.Links.{walked, IsLinked};
+    ghost use Rattle.page_sweep.specs.Links.{IsLinked};
+    ghost use Rattle.ram_block.specs.PageLinks.{walked};
 
     ghost Value = { SweepData };
 
@@ -31,8 +32,8 @@ impl Model for Sweep {
 }
 
 impl Sweep {
-    ghost use Rattle.page_sweep.specs.Sweep.{is_left, without, IsSweep};
-    ghost use Rattle.page_sweep.specs.Links.{link_of};
+    ghost use Rattle.page_sweep.specs.Sweep.{without, IsSweep};
+    ghost use Rattle.ram_block.specs.PageLinks.{is_listed, link_of};
 
     /// The sweep with all of this many pages left.
     pub fn full(alloc: Global, pages: u32) -> Result<Sweep, NoMemory>
@@ -57,7 +58,7 @@ impl Sweep {
     pub fn first(&self) -> Option<u32>
         ensures first { result ≡ slice_get self.now.list 0 }
         ensures empty { (result ≡ None) ↔ (self.now.list ≡ []) }
-        ensures left { IfSome result (λ p. is_left self.now.list p ≡ true) }
+        ensures left { IfSome result (λ p. is_listed self.now.list p ≡ true) }
         ensures below { IfSome result (λ p. p < self.now.pages) }
         ensures kept { IsSweep self.now }
     {
@@ -67,7 +68,7 @@ impl Sweep {
     /// Takes a page out. It answers false where the page isn't left.
     pub fn remove(&mut self, p: u32) -> bool
         requires { p < self.old.pages }
-        ensures left { result ≡ is_left self.old.list p }
+        ensures left { result ≡ is_listed self.old.list p }
         ensures sweep { self.new ≡ record { pages = self.old.pages; list = without self.old.list p } }
         ensures unchanged { result ≡ false → self.new ≡ self.old }
         ensures kept { IsSweep self.new }

@@ -1,2 +1,3 @@
 pub mod Addresses
+pub mod LinkedPages
 pub mod Pages

@@ -1,26 +1,23 @@
 -- What each call makes of the links.
-use Rattle.std.proofs.Common.{◌≡◌, ℕ, ◌<◌, ◌≤◌, false, List, [], ◌∷◌, ◌++◌, length, Option, Some, None, All, eqb, get_or, set, replicate, drop, slice_get, sym, ap, ◌∙◌, refl, arith, eq-eqb, ne_eqb, inl, inr, subst, subst₂, not, append_assoc}
+use Rattle.std.proofs.Common.{◌≡◌, ℕ, ◌<◌, false, List, [], ◌∷◌, ◌++◌, length, Option, Some, None, All, eqb, get_or, set, replicate, drop, slice_get, sym, ap, ◌∙◌, refl, arith, eq-eqb, ne_eqb, inl, inr, subst, subst₂, not, append_assoc}
 use Rattle.std.proofs.lemmas.Bool.{cases_Bool, cases_eq, or_parts, eqb-false}
 use Rattle.std.proofs.lemmas.List.{get_or-replicate, length-replicate, get_or-set_same, get_or-set_other, length-set}
 use Rattle.std.proofs.lemmas.Grind.{get_or_default_zero}
 use Rattle.std.proofs.lemmas.List.Elements.{All-nil, All-tail, All-head, All-push}
 use Rattle.std.proofs.lemmas.Map.Keys.{IsDistinct-tail}
-use Rattle.std.proofs.lemmas.Map.Steps.{length-le_from_distinct_below}
-use Rattle.wp_fault.specs.Links.{first_or, link_of, walked, IsLinked}
-use Rattle.wp_fault.specs.Queue.{is_queued, queued, IsQueue, QueueData}
-use Rattle.wp_fault.proofs.Lists.{head_absent, link_of-absent, link_of-present, link_of-at, link_of-push, last_of-push, last_of-none, last_split, last_absent, last_queued, queued_below, IsDistinct-nil, IsDistinct-push, walk_is}
+use Rattle.ram_block.specs.PageLinks.{is_listed, first_or, link_of, walked}
+use Rattle.ram_block.proofs.LinkedPages.{head_absent, listed_below, link_of-absent, link_of-present, link_of-at, walked_is}
+use Rattle.wp_fault.specs.Links.{IsLinked}
+use Rattle.wp_fault.specs.Queue.{queued, IsQueue, QueueData}
+use Rattle.wp_fault.proofs.Lists.{link_of-push, last_of-push, last_of-none, last_split, last_absent, last_queued, IsDistinct-nil, IsDistinct-push}
 
 -- the links of a list give that list
-pub walked_is : (pages : ℕ) (next : List ℕ) (front last : Option ℕ) (q : List ℕ) → IsLinked pages next front last q → walked front next ≡ q
-walked_is pages next front last [] k = rw k.begins refl
-walked_is pages next front last (p ∷ q) k =
-    let below = queued_below pages (p ∷ q) k.queue.below in
-    let room : length (p ∷ q) ≤ pages = length-le_from_distinct_below (p ∷ q) pages k.queue.distinct below in
-    rw k.begins (walk_is pages (length next) next p q k.queue.distinct (omega (arith, k.same_length)) (λ x e. k.links x (below x e)))
+pub links_walked : (pages : ℕ) (next : List ℕ) (front last : Option ℕ) (q : List ℕ) → IsLinked pages next front last q → walked front next ≡ q
+links_walked pages next front last q k = walked_is pages next front q k.same_length k.links k.begins k.queue.distinct (listed_below pages q k.queue.below)
 
 -- so they are the links of what they give
 pub kept : (pages : ℕ) (next : List ℕ) (front last : Option ℕ) (q : List ℕ) → IsLinked pages next front last q → IsLinked pages next front last (walked front next)
-kept pages next front last q k = subst (IsLinked pages next front last) (sym (walked_is pages next front last q k)) k
+kept pages next front last q k = subst (IsLinked pages next front last) (sym (links_walked pages next front last q k)) k
 
 -- links that all have the number of pages are those of the empty list
 pub starts : (pages : ℕ) (next : List ℕ) → next ≡ replicate pages pages → IsLinked pages next None None []
@@ -33,14 +30,14 @@ starts pages next e = record {
 }
 
 -- the queue with a page put last
-queue-push : (pages : ℕ) (q : List ℕ) (p : ℕ) → IsQueue (record { pages = pages; list = q }) → p < pages → is_queued q p ≡ false → IsQueue (record { pages = pages; list = q ++ p ∷ [] })
+queue-push : (pages : ℕ) (q : List ℕ) (p : ℕ) → IsQueue (record { pages = pages; list = q }) → p < pages → is_listed q p ≡ false → IsQueue (record { pages = pages; list = q ++ p ∷ [] })
 queue-push pages q p k below absent = record {
   distinct = IsDistinct-push q p k.distinct absent;
   below = All-push (λ x. x < pages) q p k.below below;
 }
 
 -- a page put into an empty queue
-pub pushed_first : (pages : ℕ) (next : List ℕ) (front : Option ℕ) (q : List ℕ) (p : ℕ) → IsLinked pages next front None q → p < pages → is_queued q p ≡ false
+pub pushed_first : (pages : ℕ) (next : List ℕ) (front : Option ℕ) (q : List ℕ) (p : ℕ) → IsLinked pages next front None q → p < pages → is_listed q p ≡ false
     → IsLinked pages (set next p p) (Some p) (Some p) (q ++ p ∷ [])
 pushed_first pages next front (a ∷ q) p k below absent = absurd (cc (last_of-none (a ∷ q) (sym k.ends)))
 pushed_first pages next front [] p k below absent = record {
@@ -58,7 +55,7 @@ pushed_first pages next front [] p k below absent = record {
 pub last_below : (pages : ℕ) (next : List ℕ) (front : Option ℕ) (l : ℕ) (q : List ℕ) → IsLinked pages next front (Some l) q → l < length next
 last_below pages next front l q k =
     let split = last_split q l (sym k.ends) in
-    rw k.same_length (queued_below pages q k.queue.below l (rw split.1 (last_queued split.0 l)))
+    rw k.same_length (listed_below pages q k.queue.below l (rw split.1 (last_queued split.0 l)))
 
 -- the front stays where a page is put behind another
 same_front : (q : List ℕ) (l p : ℕ) → slice_get (q ++ l ∷ []) 0 ≡ slice_get (q ++ l ∷ [] ++ p ∷ []) 0
@@ -66,7 +63,7 @@ same_front [] l p = refl
 same_front (a ∷ q) l p = refl
 
 -- a page put behind the last, which is l
-pushed_at : (pages : ℕ) (next : List ℕ) (front : Option ℕ) (q : List ℕ) (l p : ℕ) → IsLinked pages next front (Some l) (q ++ l ∷ []) → p < pages → is_queued (q ++ l ∷ []) p ≡ false
+pushed_at : (pages : ℕ) (next : List ℕ) (front : Option ℕ) (q : List ℕ) (l p : ℕ) → IsLinked pages next front (Some l) (q ++ l ∷ []) → p < pages → is_listed (q ++ l ∷ []) p ≡ false
     → IsLinked pages (set (set next l p) p p) front (Some p) (q ++ l ∷ [] ++ p ∷ [])
 pushed_at pages next front q l p k below absent =
     let l_below : l < length next = last_below pages next front l (q ++ l ∷ []) k in
@@ -86,7 +83,7 @@ pushed_at pages next front q l p k below absent =
     }
 
 -- a page put behind the last
-pub pushed : (pages : ℕ) (next : List ℕ) (front : Option ℕ) (l : ℕ) (q : List ℕ) (p : ℕ) → IsLinked pages next front (Some l) q → p < pages → is_queued q p ≡ false
+pub pushed : (pages : ℕ) (next : List ℕ) (front : Option ℕ) (l : ℕ) (q : List ℕ) (p : ℕ) → IsLinked pages next front (Some l) q → p < pages → is_listed q p ≡ false
     → IsLinked pages (set (set next l p) p p) front (Some p) (q ++ p ∷ [])
 pushed pages next front l q p k below absent =
     let split = last_split q l (sym k.ends) in
@@ -114,7 +111,7 @@ queue_rest pages p r k = record {
 popped_only : (pages : ℕ) (next : List ℕ) (p : ℕ) (last : Option ℕ) (r : List ℕ) → IsLinked pages next (Some p) last (p ∷ r) → get_or next p 0 ≡ p
     → (p ∷ r ≡ p ∷ []) × IsLinked pages (set next p pages) None None []
 popped_only pages next p last (b ∷ s) k e =
-    let parts = or_parts (eqb p b) (is_queued s p) (head_absent p (b ∷ s) k.queue.distinct) in
+    let parts = or_parts (eqb p b) (is_listed s p) (head_absent p (b ∷ s) k.queue.distinct) in
     absurd (eqb-false p b parts.0 (sym e ∙ front_link pages next p last (b ∷ s) k))
 popped_only pages next p last [] k e = (
   refl,
@@ -151,13 +148,13 @@ pub record IsPushed (d : QueueData) (p pages : ℕ) (next : List ℕ) (front las
   pub added : walked front next ≡ d.list ++ p ∷ []
 
 module _ (d : QueueData) (p pages : ℕ) (next : List ℕ) (front last : Option ℕ)
-    (view_is : ◌≡◌ {A = QueueData} (record { pages = pages; list = walked front next }) d) (k : IsLinked pages next front last (walked front next)) (below : p < d.pages) (absent : is_queued d.list p ≡ false) where
+    (view_is : ◌≡◌ {A = QueueData} (record { pages = pages; list = walked front next }) d) (k : IsLinked pages next front last (walked front next)) (below : p < d.pages) (absent : is_listed d.list p ≡ false) where
   -- links of the new list are what was made
   made : (next' : List ℕ) (front' : Option ℕ) → IsLinked pages next' front' (Some p) (walked front next ++ p ∷ []) → IsPushed d p pages next' front' (Some p)
   made next' front' m = record {
     linked = kept pages next' front' (Some p) (walked front next ++ p ∷ []) m;
     same_pages = ap (λ (x : QueueData). x.pages) view_is;
-    added = walked_is pages next' front' (Some p) (walked front next ++ p ∷ []) m ∙ ap (λ (x : QueueData). x.list ++ p ∷ []) view_is;
+    added = links_walked pages next' front' (Some p) (walked front next ++ p ∷ []) m ∙ ap (λ (x : QueueData). x.list ++ p ∷ []) view_is;
   }
 
   -- the page is below the number of pages
@@ -165,8 +162,8 @@ module _ (d : QueueData) (p pages : ℕ) (next : List ℕ) (front last : Option 
   page_below = subst (λ (n : ℕ). p < n) (sym (ap (λ (x : QueueData). x.pages) view_is)) below
 
   -- the page isn't queued
-  page_absent : is_queued (walked front next) p ≡ false
-  page_absent = ap (λ (x : QueueData). is_queued x.list p) view_is ∙ absent
+  page_absent : is_listed (walked front next) p ≡ false
+  page_absent = ap (λ (x : QueueData). is_listed x.list p) view_is ∙ absent
 
   -- the page put into an empty queue
   pub pushes_first : last ≡ None → IsPushed d p pages (set next p p) (Some p) (Some p)
@@ -177,7 +174,7 @@ module _ (d : QueueData) (p pages : ℕ) (next : List ℕ) (front last : Option 
   pushes l e = made (set (set next l p) p p) front (pushed pages next front l (walked front next) p (rw e at k) page_below page_absent)
 
 -- what contracts see then
-pub pushed_view : (d : QueueData) (p pages : ℕ) (next : List ℕ) (front last : Option ℕ) → is_queued d.list p ≡ false → IsPushed d p pages next front last
+pub pushed_view : (d : QueueData) (p pages : ℕ) (next : List ℕ) (front last : Option ℕ) → is_listed d.list p ≡ false → IsPushed d p pages next front last
     → ◌≡◌ {A = QueueData} (record { pages = pages; list = walked front next }) (record { pages = d.pages; list = queued d.list p })
 pushed_view d p pages next front last absent k = rw (absent, k.added, k.same_pages) refl
 
@@ -226,7 +223,7 @@ module _ (d : QueueData) (p after pages : ℕ) (next : List ℕ) (front last : O
       record {
         linked = kept pages (set next p pages) (Some after) last (drop 1 d.list) more;
         same_pages = ap (λ (x : QueueData). x.pages) view_is;
-        taken = split ∙ ap (λ (q : List ℕ). p ∷ q) (sym (walked_is pages (set next p pages) (Some after) last (drop 1 d.list) more));
+        taken = split ∙ ap (λ (q : List ℕ). p ∷ q) (sym (links_walked pages (set next p pages) (Some after) last (drop 1 d.list) more));
         below = subst (λ (n : ℕ). p < n) (ap (λ (x : QueueData). x.pages) view_is) front_below;
       }
 
@@ -236,10 +233,10 @@ pub popped_view : (d : QueueData) (p pages : ℕ) (next : List ℕ) (front last 
 popped_view d p pages next front last k = rw (k.taken, k.same_pages) refl
 
 -- a page's link tells whether it is queued
-pub tells : (pages : ℕ) (next : List ℕ) (front last : Option ℕ) (q : List ℕ) (p : ℕ) → IsLinked pages next front last q → p < pages → not (eqb (get_or next p 0) pages) ≡ is_queued q p
-tells pages next front last q p k below = elim (cases_Bool (is_queued q p)) [
+pub tells : (pages : ℕ) (next : List ℕ) (front last : Option ℕ) (q : List ℕ) (p : ℕ) → IsLinked pages next front last q → p < pages → not (eqb (get_or next p 0) pages) ≡ is_listed q p
+tells pages next front last q p k below = elim (cases_Bool (is_listed q p)) [
   | inl queued ↦
-      let page : link_of pages q p < pages = link_of-present pages q p k.queue.below below queued in
+      let page : link_of pages q p < pages = link_of-present pages q p (listed_below pages q k.queue.below) queued in
       let other : link_of pages q p ≡ pages → ⊥ = λ same. omega arith in
       rw (queued, k.links p below, ne_eqb (link_of pages q p) pages other) refl
   | inr absent ↦ rw (absent, k.links p below, link_of-absent pages q p absent, eq-eqb pages pages refl) refl

@@ -1,19 +1,16 @@
 -- The queue of faulted pages: first come, first served, each page once (this project's own, docs/ARCHITECTURE.md).
-use Rattle.std.specs.Prelude.{ℕ, ◌<◌, Bool, nat_eq, List, [], ◌∷◌, ◌++◌, All, if◌then◌else◌}
-use Rattle.std.specs.List.{list_any, IsDistinct}
+use Rattle.std.specs.Prelude.{ℕ, ◌<◌, nat_eq, List, [], ◌∷◌, ◌++◌, All, if◌then◌else◌}
+use Rattle.std.specs.List.{IsDistinct}
+use Rattle.ram_block.specs.PageLinks.{is_listed}
 
 -- how many pages there are, and those that are queued, the front first
 pub record QueueData : Type 0 where
   pub pages : ℕ
   pub list : List ℕ
 
--- whether page p is queued
-abbrev pub is_queued : List ℕ → ℕ → Bool
-is_queued q p = list_any (nat_eq p) q
-
 -- the queue once page p is in it
 abbrev pub queued : List ℕ → ℕ → List ℕ
-queued q p = if is_queued q p then q else q ++ p ∷ []
+queued q p = if is_listed q p then q else q ++ p ∷ []
 
 -- no page is queued twice, and each page is below the number of pages
 pub record IsQueue (d : QueueData) : Type 0 where

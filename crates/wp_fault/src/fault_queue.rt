@@ -16,7 +16,8 @@ pub struct FaultQueue {
 
 impl Model for FaultQueue {
     ghost use Rattle.wp_fault.specs.Queue.{QueueData};
-    ghost use Rattle.wp_fault.specs.Links.{walked, IsLinked};
+    ghost use Rattle.ram_block.specs.PageLinks.{walked};
+    ghost use Rattle.wp_fault.specs.Links.{IsLinked};
 
     ghost Value = { QueueData };
 
@@ -26,8 +27,8 @@ impl Model for FaultQueue {
 }
 
 impl FaultQueue {
-    ghost use Rattle.wp_fault.specs.Queue.{is_queued, queued, IsQueue};
-    ghost use Rattle.wp_fault.specs.Links.{link_of};
+    ghost use Rattle.ram_block.specs.PageLinks.{is_listed, link_of};
+    ghost use Rattle.wp_fault.specs.Queue.{queued, IsQueue};
 
     /// An empty queue for this many pages.
     pub fn new(alloc: Global, pages: u32) -> Result<FaultQueue, NoMemory>
@@ -44,7 +45,7 @@ impl FaultQueue {
     /// Puts a page last. It answers false where the page is queued already.
     pub fn push(&mut self, p: u32) -> bool
         requires { p < self.old.pages }
-        ensures added { result ≡ not (is_queued self.old.list p) }
+        ensures added { result ≡ not (is_listed self.old.list p) }
         ensures queue { self.new ≡ record { pages = self.old.pages; list = queued self.old.list p } }
         ensures kept { IsQueue self.new }
     {
@@ -83,7 +84,7 @@ impl FaultQueue {
     /// Whether a page is queued.
     pub fn has(&self, p: u32) -> bool
         requires { p < self.now.pages }
-        ensures queued { result ≡ is_queued self.now.list p }
+        ensures queued { result ≡ is_listed self.now.list p }
         ensures kept { IsQueue self.now }
     {
         self.next[p as usize] != self.pages

@@ -1,5 +1,6 @@
 use Rattle.std.proofs.Common.{◌≡◌, ℕ, ◌<◌, ap, ◌∙◌, not, eqb}
-use Rattle.wp_fault.specs.Queue.{QueueData, is_queued}
+use Rattle.ram_block.specs.PageLinks.{is_listed}
+use Rattle.wp_fault.specs.Queue.{QueueData}
 use Rattle.wp_fault.proofs.Linked.{tells}
 use Rattle.std.proofs.lemmas.Grind.{get_or_default_zero}
 use Rattle.wp_fault.proofs.fault_queue.FaultQueue.has.Goals as goal
@@ -12,4 +13,4 @@ returns-clause-queued c =
     let k = c.self.invariant in
     let link = c.index.ensures ∙ get_or_default_zero f.next.items c.args.p c.index.result.now (rw k.same_length below) in
     ap (λ (x : ℕ). not (eqb x f.pages)) link ∙ tells f.pages f.next.items f.front f.last _ c.args.p k below
-    ∙ ap (λ (d : QueueData). is_queued d.list c.args.p) c.self.view_is
+    ∙ ap (λ (d : QueueData). is_listed d.list c.args.p) c.self.view_is
