@@ -1,6 +1,7 @@
 -- What the serial device holds, and what each access makes of it (this project's own device, docs/MACHINE.md).
 use Rattle.std.specs.Prelude.{ℕ, ◌+◌, ◌-◌, ◌^◌, ◌<◌, ◌≤◌, min, nat_lt, List, [], ◌∷◌, ◌++◌, length, drop, slice_index, if◌then◌else◌}
-use Rattle.serial_timer.specs.declared.serial.TheConstants.{MAX_SERIAL_BYTES, MAX_SERIAL_INPUT}
+use Rattle.ram_block.specs.declared.limits.TheConstants.{MAX_INPUT}
+use Rattle.serial_timer.specs.declared.serial.TheConstants.{MAX_SERIAL_BYTES}
 
 -- the bytes that the guest wrote and the device keeps, how many it lost, and the input that waits
 pub record SerialData : Type 0 where
@@ -12,7 +13,7 @@ pub record SerialData : Type 0 where
 pub record IsSerial (s : SerialData) : Type 0 where
   pub bytes : length s.bytes ≤ MAX_SERIAL_BYTES
   pub lost : s.lost < 2 ^ 64
-  pub input : length s.input ≤ MAX_SERIAL_INPUT
+  pub input : length s.input ≤ MAX_INPUT
 
 -- the device after a store to TX: a full one counts the byte as lost, up to the greatest u64
 unfoldable pub sent : SerialData → ℕ → SerialData

@@ -5,7 +5,7 @@
 mod serial;
 mod timer;
 
-pub use serial::{MAX_SERIAL_BYTES, MAX_SERIAL_INPUT, Serial};
+pub use serial::{MAX_SERIAL_BYTES, Serial};
 pub use timer::Timer;
 
 #[cfg(test)]

@@ -1,14 +1,11 @@
 ghost use Rattle.std.specs.Prelude.{◌≡◌, ◌<◌, ◌≤◌, ◌↔◌, [], length, IfOk, IsTrue};
 
-use ram_block::NoMemory;
+use ram_block::{MAX_INPUT, NoMemory};
 use std::alloc::Global;
 use std::marker::Model;
 
 /// The most bytes that the device keeps.
 pub const MAX_SERIAL_BYTES: usize = 65_536;
-
-/// The most bytes of input.
-pub const MAX_SERIAL_INPUT: usize = 4096;
 
 // The bit of STATUS that says that the device has room for a byte.
 const ROOM: u8 = 0x20;
@@ -28,7 +25,8 @@ pub struct Serial {
 
 impl Model for Serial {
     ghost use Rattle.std.specs.Prelude.{◌^◌, ◌<◌, ◌≤◌, drop, vec_len, vec_capacity};
-    ghost use Rattle.serial_timer.specs.declared.serial.TheConstants.{MAX_SERIAL_BYTES, MAX_SERIAL_INPUT};
+    ghost use Rattle.ram_block.specs.declared.limits.TheConstants.{MAX_INPUT};
+    ghost use Rattle.serial_timer.specs.declared.serial.TheConstants.{MAX_SERIAL_BYTES};
     ghost use Rattle.serial_timer.specs.Serial.{SerialData};
 
     ghost Value = { SerialData };
@@ -39,7 +37,7 @@ impl Model for Serial {
       kept : vec_len s.bytes ≤ MAX_SERIAL_BYTES;
       room : MAX_SERIAL_BYTES ≤ vec_capacity s.bytes;
       lost : s.lost < 2 ^ 64;
-      input : vec_len s.input ≤ MAX_SERIAL_INPUT;
+      input : vec_len s.input ≤ MAX_INPUT;
       taken : s.taken ≤ vec_len s.input;
     } };
 }
@@ -49,7 +47,7 @@ impl Serial {
 
     /// A device that holds no byte, with this input.
     pub fn new(alloc: Global, input: &[u8]) -> Result<Serial, NoMemory>
-        requires { length input.now ≤ MAX_SERIAL_INPUT }
+        requires { length input.now ≤ MAX_INPUT }
         ensures { IfOk result (λ s. s ≡ record { bytes = []; lost = 0; input = input.now }) }
     {
         Serial::of(alloc, &[], 0, input)
@@ -58,7 +56,7 @@ impl Serial {
     /// A device that holds these bytes and has lost so many, with this input.
     pub fn of(alloc: Global, bytes: &[u8], lost: u64, input: &[u8]) -> Result<Serial, NoMemory>
         requires bytes { length bytes.now ≤ MAX_SERIAL_BYTES }
-        requires input { length input.now ≤ MAX_SERIAL_INPUT }
+        requires input { length input.now ≤ MAX_INPUT }
         ensures { IfOk result (λ s. s ≡ record { bytes = bytes.now; lost = lost; input = input.now }) }
     {
         let mut kept = Vec::with_capacity(alloc, MAX_SERIAL_BYTES)?;
