@@ -1,5 +1,6 @@
 -- What a machine holds in its cells, when one of them is written.
-use Rattle.std.proofs.Common.{◌≡◌, ◌≢◌, ℕ, ◌+◌, ◌*◌, ◌<◌, ◌≤◌, List, length, refl, sym, ap, arith}
+use Rattle.std.proofs.Common.{◌≡◌, ◌≢◌, ◌⊎◌, inl, inr, ℕ, ◌+◌, ◌*◌, ◌<◌, ◌≤◌, List, length, refl, sym, ap, arith}
+use Rattle.std.proofs.lemmas.Bool.{cases_eq}
 use Rattle.ram_block.specs.Shape.{ShapeData, ram_bytes_of, total_pages_of}
 use Rattle.ram_block.specs.declared.page_buf.TheConstants.{PAGE}
 use Rattle.serial_timer.specs.Serial.{SerialData}
@@ -69,6 +70,16 @@ content-with_content_other m (PageCell p) d (Page bytes) size of other = page_wr
 content-with_content_other m SerialCell d (Serial s) size of other = serial_write_other m s d other
 content-with_content_other m TimerCell d (Timer cmp) size of other = timer_write_other m cmp d other
 content-with_content_other m _ d _ size of other = absurd of
+
+-- a cell is this page or not
+pub cell_cases : (c : CellName) (p : ℕ) → (c ≡ PageCell p) ⊎ (c ≢ PageCell p)
+cell_cases (PageCell q) p =
+    elim (cases_eq q p) as (λ _. (PageCell q ≡ PageCell p) ⊎ (PageCell q ≢ PageCell p)) [
+      | inl same ↦ inl (ap PageCell same)
+      | inr other ↦ inr (λ e. other (cc))
+    ]
+cell_cases SerialCell p = inr (λ e. cc)
+cell_cases TimerCell p = inr (λ e. cc)
 
 -- the law of cells
 pub ruleset cell_laws = (content-with_content_same, content-with_content_other, length-with_content)

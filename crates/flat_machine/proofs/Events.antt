@@ -9,7 +9,7 @@ use Rattle.rv64i_step.specs.declared.request.Request.{Request}
 use Rattle.rv64i_step.specs.declared.request.Request.TheVariants.{Nothing, NoFetch, Fetch, Load, Store, Amo}
 use Rattle.flat_machine.specs.Cell.{CellName, PageCell, cell_at}
 use Rattle.flat_machine.specs.Machine.{MachineData}
-use Rattle.flat_machine.specs.Next.{cell_of, with_vcpu, touched_by, event_with, event_of, next}
+use Rattle.flat_machine.specs.Next.{cell_of, after_event, after_cell_event, event_with, event_of, next}
 
 -- the element that was written
 pub slice_get-set_same : {X : Type 0} (xs : List X) (k : ℕ) (x : X) → k < length xs → slice_get (slice_set xs k x) k ≡ Some x
@@ -38,22 +38,22 @@ next_past m k none = ap (event_of m k) none
 
 -- with a request that touches a cell
 event_touches : (m : MachineData) (k : ℕ) (v : VcpuData) (r : Request) (c : CellName) → cell_of r ≡ Some c →
-    event_with m k v r ≡ Some (touched_by m k v r c)
+    event_with m k v r ≡ Some (after_cell_event m k v r c)
 event_touches m k v Nothing c touches = absurd (none-some c touches)
 event_touches m k v (NoFetch cause) c touches = absurd (none-some c touches)
-event_touches m k v (Fetch page off) c touches = ap (λ d. Some (touched_by m k v (Fetch page off) d)) (same_Some (PageCell page) c touches)
-event_touches m k v (Load place width) c touches = ap (λ d. Some (touched_by m k v (Load place width) d)) (same_Some (cell_at place) c touches)
-event_touches m k v (Store place width value) c touches = ap (λ d. Some (touched_by m k v (Store place width value) d)) (same_Some (cell_at place) c touches)
-event_touches m k v (Amo place width op value) c touches = ap (λ d. Some (touched_by m k v (Amo place width op value) d)) (same_Some (cell_at place) c touches)
+event_touches m k v (Fetch page off) c touches = ap (λ d. Some (after_cell_event m k v (Fetch page off) d)) (same_Some (PageCell page) c touches)
+event_touches m k v (Load place width) c touches = ap (λ d. Some (after_cell_event m k v (Load place width) d)) (same_Some (cell_at place) c touches)
+event_touches m k v (Store place width value) c touches = ap (λ d. Some (after_cell_event m k v (Store place width value) d)) (same_Some (cell_at place) c touches)
+event_touches m k v (Amo place width op value) c touches = ap (λ d. Some (after_cell_event m k v (Amo place width op value) d)) (same_Some (cell_at place) c touches)
 
 -- the law of an event that touches a cell
 pub next_touches : (m : MachineData) (k : ℕ) (v : VcpuData) (r : Request) (c : CellName) → slice_get m.vcpus k ≡ Some v →
-    request_of m.shape v ≡ r → cell_of r ≡ Some c → next m k ≡ Some (touched_by m k v r c)
+    request_of m.shape v ≡ r → cell_of r ≡ Some c → next m k ≡ Some (after_cell_event m k v r c)
 next_touches m k v r c stood asks touches = next_with m k v r stood asks ∙ event_touches m k v r c touches
 
 -- the law of a fetch that has no place, which touches none
 pub next_no_fetch : (m : MachineData) (k : ℕ) (v : VcpuData) (cause : Cause) → slice_get m.vcpus k ≡ Some v →
-    request_of m.shape v ≡ NoFetch cause → next m k ≡ Some (with_vcpu m k (fetched_vcpu m.shape v None))
+    request_of m.shape v ≡ NoFetch cause → next m k ≡ Some (after_event m k (fetched_vcpu m.shape v None))
 next_no_fetch m k v cause stood asks = next_with m k v (NoFetch cause) stood asks
 
 -- the law of an event

@@ -26,7 +26,7 @@ use Rattle.rv64i_step.specs.declared.request.Request.TheVariants.{Nothing, NoFet
 use Rattle.rv64i_step.specs.declared.state.State.{State}
 use Rattle.rv64i_step.specs.declared.state.State.TheVariants.{Running, Halted}
 use Rattle.flat_machine.specs.Cell.{CellName, PageCell, SerialCell, TimerCell, cell_at, content, content_after, page_after}
-use Rattle.flat_machine.specs.Laws.{IsContentOf, IsServable, ServesAll}
+use Rattle.flat_machine.specs.Laws.{IsContentOf, IsCellOf, IsServable, ServesAll}
 use Rattle.flat_machine.specs.Machine.{MachineData, page_of}
 use Rattle.flat_machine.specs.Next.{cell_of}
 use Rattle.flat_machine.specs.Page.{bytes_of, with_number, page_at}
@@ -52,12 +52,6 @@ length-with_number width page off value whole within =
     omega (arith, whole, count, length-append (take off page) (bytes ++ drop (off + length bytes) page), length-append bytes (drop (off + length bytes) page), length-take off page, length-drop (off + length bytes) page)
 
 -- ---- Requests
-
--- the cell is one of a machine of this shape
-abbrev pub IsCellOf : ShapeData → CellName → Type 0
-IsCellOf shape (PageCell p) = p < total_pages_of shape
-IsCellOf shape SerialCell = Unit {0}
-IsCellOf shape TimerCell = Unit {0}
 
 -- a request of one of its places, within the page
 abbrev pub IsInside : ShapeData → Request → Type 0

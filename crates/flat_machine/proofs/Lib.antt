@@ -7,9 +7,13 @@ pub mod Padded
 pub mod Pages
 pub mod PhaseEnds
 pub mod Phases
+pub mod Rests
 pub mod RoundPhases
 pub mod Runs
+pub mod SameMachine
 pub mod Servable
 pub mod Served
+pub mod Touched
 pub mod Turns
 pub mod UnderWay
+pub mod Written

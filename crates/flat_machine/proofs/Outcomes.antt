@@ -28,14 +28,11 @@ use Rattle.rv64i_step.proofs.Outcomes.{fetch_outcome, no_fetch_outcome, access_o
 use Rattle.flat_machine.specs.Cell.{CellName, PageCell, cell_at, content, content_after, gives}
 use Rattle.flat_machine.specs.Laws.{IsServable, ServesAll, EventOutcome, OfFetch, OfAccess, HasEvent}
 use Rattle.flat_machine.specs.Machine.{MachineData}
-use Rattle.flat_machine.specs.Next.{vcpu_after, with_vcpu, touched_by, event_with, next}
+use Rattle.flat_machine.specs.Next.{vcpu_after, after_event, after_cell_event, event_with, next}
 use Rattle.flat_machine.specs.Run.{is_halted, halted_at}
+use Rattle.flat_machine.specs.UnderWay.{AwaitsMemory}
 use Rattle.flat_machine.proofs.Cells.{cell_write}
 use Rattle.flat_machine.proofs.Events.{slice_get-set_same, slice_get-set_other, next_with, next_past}
-
--- a pending access is of a load, a store or an AMO
-abbrev pub AwaitsMemory : VcpuData → Type 0
-AwaitsMemory v = (access : Access) → v.pending ≡ Some access → AccessesMemory access.instr
 
 -- each pending access of a machine is one
 abbrev pub AwaitMemory : MachineData → Type 0
@@ -92,9 +89,9 @@ pub data RequestOutcome (v : VcpuData) (m : MachineData) (k : ℕ) (result : Opt
   Happens : (after : MachineData) → result ≡ Some after → EventFrom v m k after → RequestOutcome v m k result
 
 -- an event that touches a cell writes to that vCPU
-touched_vcpus : (m : MachineData) (k : ℕ) (v : VcpuData) (r : Request) (c : CellName) (is : VcpuData) →
-    EventOutcome v is → (touched_by m k v r c).vcpus ≡ slice_set m.vcpus k is → RequestOutcome v m k (Some (touched_by m k v r c))
-touched_vcpus m k v r c is outcome written = Happens (touched_by m k v r c) refl (record { is = is; vcpus = written; outcome = outcome })
+cell_event_vcpus : (m : MachineData) (k : ℕ) (v : VcpuData) (r : Request) (c : CellName) (is : VcpuData) →
+    EventOutcome v is → (after_cell_event m k v r c).vcpus ≡ slice_set m.vcpus k is → RequestOutcome v m k (Some (after_cell_event m k v r c))
+cell_event_vcpus m k v r c is outcome written = Happens (after_cell_event m k v r c) refl (record { is = is; vcpus = written; outcome = outcome })
 
 -- a fetch
 fetch_event : (m : MachineData) (k : ℕ) (v : VcpuData) (at : Result Place Cause) → v.pending ≡ None → request_of m.shape v ≡ fetch_at at →
@@ -103,21 +100,21 @@ fetch_event m k v (Ok (places.Ram page off)) none asks =
     let r = requests.Fetch page off in
     let c = PageCell page in
     let word = gives r (content m c) m.clock in
-    touched_vcpus m k v r c (fetched_vcpu m.shape v (Some word)) (OfFetch none (fetch_outcome m.shape v word none)) refl
+    cell_event_vcpus m k v r c (fetched_vcpu m.shape v (Some word)) (OfFetch none (fetch_outcome m.shape v word none)) refl
 fetch_event m k v (Ok (places.Serial reg)) none asks =
-    Happens (with_vcpu m k (fetched_vcpu m.shape v None)) refl (record { is = fetched_vcpu m.shape v None; vcpus = refl; outcome = OfFetch none (Halting _ (no_fetch_outcome m.shape v _ none asks)) })
+    Happens (after_event m k (fetched_vcpu m.shape v None)) refl (record { is = fetched_vcpu m.shape v None; vcpus = refl; outcome = OfFetch none (Halting _ (no_fetch_outcome m.shape v _ none asks)) })
 fetch_event m k v (Ok (places.Timer reg)) none asks =
-    Happens (with_vcpu m k (fetched_vcpu m.shape v None)) refl (record { is = fetched_vcpu m.shape v None; vcpus = refl; outcome = OfFetch none (Halting _ (no_fetch_outcome m.shape v _ none asks)) })
+    Happens (after_event m k (fetched_vcpu m.shape v None)) refl (record { is = fetched_vcpu m.shape v None; vcpus = refl; outcome = OfFetch none (Halting _ (no_fetch_outcome m.shape v _ none asks)) })
 fetch_event m k v (Err cause) none asks =
-    Happens (with_vcpu m k (fetched_vcpu m.shape v None)) refl (record { is = fetched_vcpu m.shape v None; vcpus = refl; outcome = OfFetch none (Halting cause (no_fetch_outcome m.shape v cause none asks)) })
+    Happens (after_event m k (fetched_vcpu m.shape v None)) refl (record { is = fetched_vcpu m.shape v None; vcpus = refl; outcome = OfFetch none (Halting cause (no_fetch_outcome m.shape v cause none asks)) })
 
 -- an access
 access_with : (m : MachineData) (k : ℕ) (v : VcpuData) (r : Request) (c : CellName) (access : Access) →
     ((value : ℕ) → vcpu_after m.shape v r value ≡ accessed_vcpu v value) → v.pending ≡ Some access → AccessesMemory access.instr →
-    RequestOutcome v m k (Some (touched_by m k v r c))
+    RequestOutcome v m k (Some (after_cell_event m k v r c))
 access_with m k v r c access same pending kind =
     let value = gives r (content m c) m.clock in
-    touched_vcpus m k v r c (accessed_vcpu v value) (OfAccess (ap is_some pending) (access_outcome v value access pending kind))
+    cell_event_vcpus m k v r c (accessed_vcpu v value) (OfAccess (ap is_some pending) (access_outcome v value access pending kind))
     (ap (λ vs. slice_set vs k (vcpu_after m.shape v r value)) (cell_write m c (content_after r (content m c))).vcpus
     ∙ ap (slice_set m.vcpus k) (same value))
 

@@ -1,5 +1,5 @@
 -- Bytes with zeros behind them, page by page.
-use Rattle.std.proofs.Common.{◌≡◌, inl, inr, ℕ, ◌+◌, ◌-◌, ◌*◌, ◌<◌, ◌≤◌, min, List, [], ◌∷◌, ◌++◌, length, take, drop, map, replicate, All, refl, sym, ◌∙◌, ap, subst, arith, append_assoc, append-nil, length-append}
+use Rattle.std.proofs.Common.{◌≡◌, inl, inr, ℕ, ◌+◌, ◌-◌, ◌*◌, ◌^◌, ◌<◌, ◌≤◌, min, List, [], ◌∷◌, ◌++◌, length, take, drop, map, replicate, All, None, refl, sym, ◌∙◌, ap, subst, arith, append_assoc, append-nil, length-append}
 use Rattle.std.proofs.lemmas.Bool.{cases_lt}
 use Rattle.std.proofs.lemmas.List.{length-drop, length-take-le, length-replicate, take-append-le, drop-append-le, take_all, drop_all, take-replicate, drop-replicate}
 use Rattle.std.proofs.lemmas.List.FromFn.{map-range_with_len_more, length-map-range_with_len, get_or-map-range_with_len}
@@ -10,6 +10,7 @@ use Rattle.ram_block.specs.Page.{zero_page}
 use Rattle.ram_block.specs.Shape.{ShapeData}
 use Rattle.ram_block.specs.declared.page_buf.TheConstants.{PAGE}
 use Rattle.rv64i_step.specs.Vcpu.{VcpuData, IsPlaced, boot_vcpu}
+use Rattle.flat_machine.specs.Machine.{MachineData, Rest}
 use Rattle.flat_machine.specs.Page.{joined}
 
 -- bytes, and zeros up to a length
@@ -113,8 +114,20 @@ vcpus_more before after v n pushed is so_far =
     pushed ∙ ap (λ l. l ++ v ∷ []) so_far ∙ ap (λ w. map boot_vcpu (range_with_len 0 n) ++ w ∷ []) is
     ∙ sym (map-range_with_len_more boot_vcpu 0 n n (omega arith))
 
+-- what holds of each vCPU at boot holds of all
+all_boot : (P : VcpuData → Type 0) (n : ℕ) → ((number : ℕ) → P (boot_vcpu number)) → All P (map boot_vcpu (range_with_len 0 n))
+all_boot P n each = λ k d h.
+    (let below : k < n = omega (arith, h, length-map-range_with_len boot_vcpu 0 n) in
+    subst P (sym (get_or-map-range_with_len boot_vcpu 0 n k k d below (omega arith))) (each k))
+
+-- a machine at boot is at rest
+pub boot_rests : (m : MachineData) (n : ℕ) → m.vcpus ≡ map boot_vcpu (range_with_len 0 n) → m.clock ≡ 0 → Rest m
+boot_rests m n is clock = record {
+  none_pending = subst (All (λ v. v.pending ≡ None)) (sym is) (all_boot (λ v. v.pending ≡ None) n (λ number. refl));
+  steps = subst (All (λ v. v.steps ≤ 2 ^ 62)) (sym is) (all_boot (λ v. v.steps ≤ 2 ^ 62) n (λ number. omega arith));
+  clock = omega (arith, clock);
+}
+
 -- no vCPU at boot has a pending access
 pub boot_placed : (shape : ShapeData) (n : ℕ) (vcpus : List VcpuData) → vcpus ≡ map boot_vcpu (range_with_len 0 n) → All (IsPlaced shape) vcpus
-boot_placed shape n vcpus is = subst (All (IsPlaced shape)) (sym is) (λ k d h.
-    let below : k < n = omega (arith, h, length-map-range_with_len boot_vcpu 0 n) in
-    subst (IsPlaced shape) (sym (get_or-map-range_with_len boot_vcpu 0 n k k d below (omega arith))) tt)
+boot_placed shape n vcpus is = subst (All (IsPlaced shape)) (sym is) (all_boot (IsPlaced shape) n (λ number. tt))

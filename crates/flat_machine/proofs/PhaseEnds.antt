@@ -11,7 +11,8 @@ use Rattle.std.proofs.Math.Seq.{take-suc}
 use Rattle.flat_machine.specs.Machine.{MachineData, Rest}
 use Rattle.flat_machine.specs.Run.{run_on, run, steps_of, has_ended, IsInPhase, Phase}
 use Rattle.flat_machine.proofs.Runs.{run-push}
-use Rattle.flat_machine.proofs.Phases.{AreOn, left_at, has_ended-is, steps_at_most, ended_pending, rest_on, rest_left, going, going_next, moves}
+use Rattle.flat_machine.specs.UnderWay.{AreOn, left_at}
+use Rattle.flat_machine.proofs.Phases.{has_ended-is, steps_at_most, ended_pending, rest_on, rest_left, going, going_next, moves}
 
 -- ---- The events left to all vCPUs
 

@@ -13,16 +13,10 @@ use Rattle.flat_machine.specs.Laws.{EventOutcome, OfFetch, OfAccess}
 use Rattle.flat_machine.specs.Machine.{MachineData, Rest}
 use Rattle.flat_machine.specs.Next.{next}
 use Rattle.flat_machine.specs.Run.{is_halted, steps_of, vcpu_ended, has_ended}
-use Rattle.flat_machine.proofs.Outcomes.{AwaitsMemory, AwaitMemory, none_awaits, outcome_kind, option_cases, All-slice_get, next_event, next_others, next_count, next_on, halted_at-is}
+use Rattle.flat_machine.specs.UnderWay.{AwaitsMemory, IsOn, AreOn, made_of, left_in, left_of, left_at}
+use Rattle.flat_machine.proofs.Outcomes.{AwaitMemory, none_awaits, outcome_kind, option_cases, All-slice_get, next_event, next_others, next_count, next_on, halted_at-is}
 
 -- ---- One vCPU
-
--- what a vCPU keeps in a phase that ends at this count of steps
-pub record IsOn (until : ℕ) (v : VcpuData) : Type 0 where
-  pub kind : AwaitsMemory v
-  pub runs : (access : Access) → v.pending ≡ Some access → v.state ≡ Running
-  pub below : (access : Access) → v.pending ≡ Some access → v.steps < until
-  pub steps : v.steps ≤ until
 
 -- with nothing pending there is only its count of steps
 pub on_without : (until : ℕ) (v : VcpuData) → v.pending ≡ None → v.steps ≤ until → IsOn until v
@@ -32,20 +26,6 @@ on_without until v none steps = record {
   below = λ access pending. absurd (none-some access (sym none ∙ pending));
   steps = steps;
 }
-
--- an access that is pending is an event already made
-abbrev pub made_of : Option Access → ℕ
-made_of None = 0
-made_of (Some access) = 1
-
--- one that is halted makes none
-abbrev pub left_in : State → ℕ → ℕ
-left_in Running n = n
-left_in (Halted cause) n = 0
-
--- the most events that a vCPU can still make in the phase: two for each instruction
-abbrev pub left_of : ℕ → VcpuData → ℕ
-left_of until v = left_in v.state (2 * (until - v.steps) - made_of v.pending)
 
 -- of one that runs
 left_running : (until : ℕ) (v : VcpuData) (p : Option Access) → v.state ≡ Running → v.pending ≡ p →
@@ -141,17 +121,9 @@ ended_pending until v on over =
 
 -- ---- All vCPUs of a machine, in a phase of n instructions from machine i
 
--- each vCPU keeps what it has to
-abbrev pub AreOn : MachineData → ℕ → MachineData → Type 0
-AreOn i n m = (k : ℕ) (v : VcpuData) → slice_get m.vcpus k ≡ Some v → IsOn (steps_of i k + n) v
-
 -- so each pending access is of a load, a store or an AMO
 pub on_kind : (i : MachineData) (n : ℕ) (m : MachineData) → AreOn i n m → AwaitMemory m
 on_kind i n m on k v stood = (on k v stood).kind
-
--- the most events that vCPU k can still make
-abbrev pub left_at : MachineData → ℕ → MachineData → ℕ → ℕ
-left_at i n m k = option_map_or (left_of (steps_of i k + n)) (slice_get m.vcpus k) 0
 
 -- the events left, the steps and the end of vCPU k are those of the vCPU there
 pub left_at-is : (i : MachineData) (n : ℕ) (m : MachineData) (k : ℕ) (v : VcpuData) → slice_get m.vcpus k ≡ Some v →

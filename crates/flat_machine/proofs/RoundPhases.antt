@@ -10,16 +10,10 @@ use Rattle.rv64i_step.specs.Vcpu.{VcpuData}
 use Rattle.flat_machine.specs.Machine.{MachineData, Rest}
 use Rattle.flat_machine.specs.Next.{next}
 use Rattle.flat_machine.specs.Run.{run_on, run, steps_of, vcpu_ended, ended_at, has_ended, ends_of, Progress, with_event, turn, turns, round, rounds_on, rounds_run, rounds, IsInPhase, Phase}
+use Rattle.flat_machine.specs.UnderWay.{AreOn, left_of, left_at, IsUnderWay}
 use Rattle.flat_machine.proofs.Runs.{run-push, take-push}
 use Rattle.flat_machine.proofs.Outcomes.{option_cases}
-use Rattle.flat_machine.proofs.Phases.{AreOn, left_at, left_at-is, has_ended-is, ended_left, none_left, rest_on, rest_left, going_next, moves, left_of}
-
--- the order so far is one of a phase that goes on
-pub record IsUnderWay (i : MachineData) (n : ℕ) (p : Progress) : Type 0 where
-  pub ran : run i p.order ≡ Some p.machine
-  pub each : (t : ℕ) → t < length p.order → IsInPhase i n p.order t
-  pub on : AreOn i n p.machine
-  pub count : length p.machine.vcpus ≡ length i.vcpus
+use Rattle.flat_machine.proofs.Phases.{left_at-is, has_ended-is, ended_left, none_left, rest_on, rest_left, going_next, moves}
 
 -- so it is before the first event
 pub begins : (i : MachineData) (n : ℕ) → Rest i → IsUnderWay i n (record { machine = i; order = [] })

@@ -5,9 +5,10 @@ use Rattle.std.proofs.lemmas.Option.{same_Some}
 use Rattle.flat_machine.specs.Laws.{ServesAll}
 use Rattle.flat_machine.specs.Machine.{MachineData, Rest}
 use Rattle.flat_machine.specs.Run.{run, steps_of, has_ended, ends_of, Progress, turn}
-use Rattle.flat_machine.proofs.Phases.{left_at, moves, steps_at_most, going_next}
+use Rattle.flat_machine.specs.UnderWay.{left_at, IsUnderWay}
+use Rattle.flat_machine.proofs.Phases.{moves, steps_at_most, going_next}
 use Rattle.flat_machine.proofs.PhaseEnds.{comes, events_of}
-use Rattle.flat_machine.proofs.RoundPhases.{IsUnderWay, goes_on, turned}
+use Rattle.flat_machine.proofs.RoundPhases.{goes_on, turned}
 use Rattle.flat_machine.proofs.Servable.{run_keeps}
 
 -- a turn leaves it so

@@ -7,3 +7,5 @@ pub mod Order
 pub mod Page
 pub mod Run
 pub mod Step
+pub mod Touched
+pub mod UnderWay

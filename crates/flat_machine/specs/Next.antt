@@ -23,23 +23,23 @@ vcpu_after shape v (Fetch page off) word = fetched_vcpu shape v (Some word)
 vcpu_after shape v _ value = accessed_vcpu v value
 
 -- the machine with vCPU k changed, after one event more
-abbrev pub with_vcpu : MachineData → ℕ → VcpuData → MachineData
-with_vcpu m k v = record m { vcpus = slice_set m.vcpus k v; clock = m.clock + 1 }
+abbrev pub after_event : MachineData → ℕ → VcpuData → MachineData
+after_event m k v = record m { vcpus = slice_set m.vcpus k v; clock = m.clock + 1 }
 
 -- the machine after an event of vCPU k that touches a cell: one write to the cell, one to the vCPU, and the clock
-abbrev pub touched_by : MachineData → ℕ → VcpuData → Request → CellName → MachineData
-touched_by m k v request cell =
-    with_vcpu (with_content m cell (content_after request (content m cell))) k
+abbrev pub after_cell_event : MachineData → ℕ → VcpuData → Request → CellName → MachineData
+after_cell_event m k v request cell =
+    after_event (with_content m cell (content_after request (content m cell))) k
     (vcpu_after m.shape v request (gives request (content m cell) m.clock))
 
 -- the machine after the event of vCPU k with this request
 abbrev pub event_with : MachineData → ℕ → VcpuData → Request → Option MachineData
 event_with m k v Nothing = None
-event_with m k v (NoFetch cause) = Some (with_vcpu m k (fetched_vcpu m.shape v None))
-event_with m k v (Fetch page off) = Some (touched_by m k v (Fetch page off) (PageCell page))
-event_with m k v (Load place width) = Some (touched_by m k v (Load place width) (cell_at place))
-event_with m k v (Store place width value) = Some (touched_by m k v (Store place width value) (cell_at place))
-event_with m k v (Amo place width op value) = Some (touched_by m k v (Amo place width op value) (cell_at place))
+event_with m k v (NoFetch cause) = Some (after_event m k (fetched_vcpu m.shape v None))
+event_with m k v (Fetch page off) = Some (after_cell_event m k v (Fetch page off) (PageCell page))
+event_with m k v (Load place width) = Some (after_cell_event m k v (Load place width) (cell_at place))
+event_with m k v (Store place width value) = Some (after_cell_event m k v (Store place width value) (cell_at place))
+event_with m k v (Amo place width op value) = Some (after_cell_event m k v (Amo place width op value) (cell_at place))
 
 -- the same, of the vCPU if it is there
 abbrev pub event_of : MachineData → ℕ → Option VcpuData → Option MachineData

@@ -4,7 +4,7 @@ ghost use Rattle.ram_block.specs.Shape.{ram_bytes_of, total_pages_of};
 ghost use Rattle.ram_block.specs.declared.page_buf.TheConstants.{PAGE};
 ghost use Rattle.rv64i_step.specs.Vcpu.{IsPlaced, boot_vcpu};
 ghost use Rattle.serial_timer.specs.declared.serial.TheConstants.{MAX_SERIAL_INPUT};
-ghost use Rattle.flat_machine.specs.Machine.{boot, IsMachine};
+ghost use Rattle.flat_machine.specs.Machine.{boot, IsMachine, Rest};
 ghost use Rattle.flat_machine.specs.Page.{joined};
 
 use crate::Machine;
@@ -25,6 +25,7 @@ impl Machine {
         requires image { length image.now ≤ ram_bytes_of shape }
         requires input { length input.now ≤ MAX_SERIAL_INPUT }
         ensures boot { IfOk result (λ m. m ≡ boot shape image.now input.now) }
+        ensures rest { IfOk result Rest }
         ensures limits { IfOk result IsMachine }
     {
         let ram = boot_ram(alloc, image, shape.total_pages())?;

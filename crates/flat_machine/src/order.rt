@@ -8,15 +8,18 @@ use std::marker::Model;
 #[derive(Debug, Drop)]
 pub struct Order {
     members: Vec<u8>,
+    room: usize,
 }
 
 impl Model for Order {
-    ghost use Rattle.std.specs.Prelude.{vec_capacity};
+    ghost use Rattle.std.specs.Prelude.{◌≤◌, vec_capacity};
     ghost use Rattle.flat_machine.specs.Order.{OrderData};
 
     ghost Value = { OrderData };
 
-    ghost view = { λ o. record { members = o.members.items; room = vec_capacity o.members } };
+    ghost view = { λ o. record { members = o.members.items; room = o.room } };
+
+    ghost invariant = { λ o. o.room ≤ vec_capacity o.members };
 }
 
 impl Order {
@@ -26,16 +29,17 @@ impl Order {
     {
         Order {
             members: Vec::new(alloc),
+            room: 0,
         }
     }
 
     /// No event, and room for so many.
     pub fn with_room(alloc: Global, n: usize) -> Result<Order, NoMemory>
-        ensures members { IfOk result (λ o. o.members ≡ []) }
-        ensures room { IfOk result (λ o. n ≤ o.room) }
+        ensures { IfOk result (λ o. o ≡ record { members = []; room = n }) }
     {
         Ok(Order {
             members: Vec::with_capacity(alloc, n)?,
+            room: n,
         })
     }
 

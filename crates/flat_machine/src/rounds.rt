@@ -96,12 +96,12 @@ impl Machine {
         ensures ended { result ≡ ended_at until self.now k }
         ensures limits { IsMachine self.now }
     {
-        is_ended(&self.vcpus[k as usize], until)
+        phase_has_ended(&self.vcpus[k as usize], until)
     }
 }
 
-// Whether a vCPU's phase that ends at this count of steps has ended.
-fn is_ended(vcpu: &Vcpu, until: u64) -> bool
+/// Whether a vCPU's phase that ends at this count of steps has ended.
+pub fn phase_has_ended(vcpu: &Vcpu, until: u64) -> bool
     ensures { result ≡ vcpu_ended until vcpu.now }
 {
     match vcpu.state() {

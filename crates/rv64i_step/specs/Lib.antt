@@ -5,4 +5,5 @@ pub mod Event
 pub mod Execute
 pub mod Laws
 pub mod Outcome
+pub mod Request
 pub mod Vcpu
