@@ -1,13 +1,11 @@
 pub mod Amos
 pub mod Chunks
 pub mod Cuts
-pub mod Decoded
 pub mod Digits
 pub mod Empty
 pub mod Finds
 pub mod Forms
 pub mod Hex
-pub mod Immediates
 pub mod InRange
 pub mod LineKinds
 pub mod Lines

@@ -13,7 +13,7 @@ use Rattle.guest_asm.specs.declared.mnemonic.Mnemonic.TheVariants.{Amo, Auipc, B
 use Rattle.guest_asm.specs.Bytes.{Piece, instruction, given, piece_of}
 use Rattle.guest_asm.specs.Listing.{byte_line, hex_digits, is_full_fence, register_text, statement_text, two_operands, upper_number, word_line}
 use Rattle.guest_asm.specs.Mnemonic.{amo_text, branch_text, imm_text, load_text, reg_text, reg_w_text, shift_text, shift_w_text, store_text, suffix_text}
-use Rattle.guest_asm.proofs.Decoded.{decoded_row}
+use Rattle.rv64i_decode.proofs.Decoded.{decoded_row}
 use Rattle.guest_asm.proofs.Amos.{amo_names}
 use Rattle.guest_asm.proofs.Forms.{IsNumberText}
 use Rattle.guest_asm.proofs.InRange.{amount_range, in_range, negative, small_12, small_target, upper_again, upper_small, wide_target}

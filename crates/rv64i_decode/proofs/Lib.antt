@@ -1,3 +1,5 @@
+pub mod Decoded
+pub mod Immediates
 pub mod OneEncoding
 pub mod Pieces
 pub mod Ranges

@@ -18,7 +18,7 @@ use Rattle.rv64i_decode.specs.Row.{HasFields, Row}
 use Rattle.rv64i_decode.specs.Valid.{IsValid}
 use Rattle.rv64i_decode.specs.Word.{IsInRange, IsWord, WordFields}
 use Rattle.rv64i_decode.proofs.Ranges.{IsValid-HasFields}
-use Rattle.guest_asm.proofs.Immediates.{is_b, is_i, is_j, is_s, is_u, word_of_fields}
+use Rattle.rv64i_decode.proofs.Immediates.{is_b, is_i, is_j, is_s, is_u, word_of_fields}
 
 -- an instruction with these fields, where there is one
 abbrev IsSound : WordFields → Option Instr → Type 0
