@@ -6,6 +6,7 @@ use Rattle.std.proofs.lemmas.Option.{same_Some, none-some, slice_get_within}
 use Rattle.ram_block.specs.Shape.{ram_bytes_of}
 use Rattle.ram_block.specs.declared.cause.Cause.{Cause}
 use Rattle.rv64i_step.specs.Event.{request_of, fetched_vcpu}
+use Rattle.rv64i_step.specs.Request.{CanServe}
 use Rattle.rv64i_step.specs.Vcpu.{VcpuData}
 use Rattle.rv64i_step.specs.declared.request.Request.{Request}
 use Rattle.rv64i_step.specs.declared.request.Request.TheVariants.{Nothing, NoFetch, Fetch, Load, Store, Amo}
@@ -15,7 +16,7 @@ use Rattle.flat_machine.specs.Machine.{MachineData}
 use Rattle.flat_machine.specs.Next.{cell_of, vcpu_after, after_event, after_cell_event, event_with, next}
 use Rattle.flat_machine.proofs.Cells.{cell_write, length-with_content, content-with_content_same, content-with_content_other}
 use Rattle.flat_machine.proofs.Events.{slice_get-set_same, slice_get-set_other, next_with, next_past, next_touches, next_no_fetch}
-use Rattle.flat_machine.proofs.Inside.{IsInside, written_inside, served_inside}
+use Rattle.flat_machine.proofs.Inside.{written_inside, asked_served}
 use Rattle.flat_machine.proofs.Outcomes.{option_cases}
 
 -- an event that touches a cell, or the vCPU alone
@@ -98,7 +99,7 @@ alone_keeps m k w = record {
 pub request_content : (m : MachineData) (k : ℕ) (v : VcpuData) (r : Request) (c : CellName) → ServesAll m → slice_get m.vcpus k ≡ Some v →
     request_of m.shape v ≡ r → cell_of r ≡ Some c → IsContentOf m.shape c (content_after r (content m c))
 request_content m k v r c serves stood asks touches =
-    written_inside m r c serves.ram (subst (IsInside m.shape) asks (served_inside m k v serves stood)) touches
+    written_inside m r c serves.ram (subst (CanServe m.shape) asks (asked_served m k v serves stood)) touches
 
 -- the first half of the law of the frame
 pub next_keeps : (m : MachineData) (k : ℕ) (after : MachineData) → ServesAll m → next m k ≡ Some after → KeepsRest m k after

@@ -16,9 +16,11 @@ use Rattle.ram_block.specs.declared.place.Width.TheVariants.{Four}
 use Rattle.std.proofs.Common.{Result, Ok, Err}
 use Rattle.rv64i_decode.specs.declared.instr.Instr.{Instr}
 use Rattle.rv64i_decode.specs.declared.instr.Instr.TheVariants as instrs
-use Rattle.rv64i_step.specs.Event.{request_of, request_in, running_request, fetch_at, access_of, fetched_vcpu, accessed_vcpu}
-use Rattle.rv64i_step.specs.Outcome.{AccessesMemory, FetchOutcome, Halting, Awaiting, Finishing}
-use Rattle.rv64i_step.specs.Vcpu.{VcpuData, IsVcpu, IsPending}
+use Rattle.rv64i_step.specs.Access.{AccessesMemory}
+use Rattle.rv64i_step.specs.Event.{IsServable, request_of, request_in, running_request, fetch_at, access_of, fetched_vcpu, accessed_vcpu}
+use Rattle.rv64i_step.specs.Outcome.{FetchOutcome, Halting, Awaiting, Finishing}
+use Rattle.rv64i_step.specs.Request.{CanServe}
+use Rattle.rv64i_step.specs.Vcpu.{VcpuData, IsVcpu}
 use Rattle.rv64i_step.specs.declared.access.Access.{Access}
 use Rattle.rv64i_step.specs.declared.request.Request.{Request}
 use Rattle.rv64i_step.specs.declared.request.Request.TheVariants as requests
@@ -26,7 +28,7 @@ use Rattle.rv64i_step.specs.declared.state.State.{State}
 use Rattle.rv64i_step.specs.declared.state.State.TheVariants.{Running, Halted}
 use Rattle.rv64i_step.proofs.Outcomes.{fetch_outcome, no_fetch_outcome, access_outcome}
 use Rattle.flat_machine.specs.Cell.{CellName, PageCell, cell_at, content, content_after, gives}
-use Rattle.flat_machine.specs.Laws.{IsServable, ServesAll, EventOutcome, OfFetch, OfAccess, HasEvent}
+use Rattle.flat_machine.specs.Laws.{ServesAll, EventOutcome, OfFetch, OfAccess, HasEvent}
 use Rattle.flat_machine.specs.Machine.{MachineData}
 use Rattle.flat_machine.specs.Next.{vcpu_after, after_event, after_cell_event, event_with, next}
 use Rattle.flat_machine.specs.Run.{is_halted, halted_at}
@@ -38,21 +40,14 @@ use Rattle.flat_machine.proofs.Events.{slice_get-set_same, slice_get-set_other, 
 abbrev pub AwaitMemory : MachineData → Type 0
 AwaitMemory m = (k : ℕ) (v : VcpuData) → slice_get m.vcpus k ≡ Some v → AwaitsMemory v
 
--- a pending access at a place where it can be carried out is one
-pub pending_kind : (place : Place) (instr : Instr) → IsPending place instr → AccessesMemory instr
-pending_kind place (instrs.Load op rd rs1 off) is = tt
-pending_kind place (instrs.Store op rs1 rs2 off) is = tt
-pending_kind place (instrs.Amo op wide rd rs1 rs2 order) is = tt
-pending_kind place _ is = absurd is
-
 -- what holds of the value in an option
 pub at_some : {X : Type 0} (P : X → Type 0) (o : Option X) (x : X) → o ≡ Some x → IfSome o P → P x
 at_some P o x is all = subst (λ r. IfSome r P) is all
 
--- so it is where the access can be carried out
+-- so it is where the access can be served
 pub servable_kind : (shape : ShapeData) (v : VcpuData) → IsServable shape v → AwaitsMemory v
 servable_kind shape v is access pending =
-    pending_kind access.place access.instr (at_some (λ a. IsPending a.place a.instr) v.pending access pending is.pending)
+    (at_some (λ a. AccessesMemory a.instr × CanServe shape (access_of v a.place a.instr)) v.pending access pending is).0
 
 -- what holds of each vCPU holds of the one with a number
 pub All-slice_get : {X : Type 0} (P : X → Type 0) (xs : List X) (k : ℕ) (x : X) → All P xs → slice_get xs k ≡ Some x → P x
@@ -62,9 +57,9 @@ All-slice_get P xs k x all stood =
 -- and in a vCPU within the limits
 pub vcpu_kind : (v : VcpuData) → IsVcpu v → AwaitsMemory v
 vcpu_kind v is access pending =
-    pending_kind access.place access.instr (at_some (λ a. IsPending a.place a.instr) v.pending access pending is.pending)
+    at_some (λ a. AccessesMemory a.instr) v.pending access pending is.pending
 
--- and in a machine whose accesses all can be
+-- and in a machine whose pending accesses all can be
 pub serves_kind : (m : MachineData) → ServesAll m → AwaitMemory m
 serves_kind m serves k v stood = servable_kind m.shape v (All-slice_get (IsServable m.shape) m.vcpus k v serves.each stood)
 
@@ -265,7 +260,7 @@ next_kind m k after kind moved j v stood =
       | inr other ↦ kind j v (sym (next_others m k after j kind moved other) ∙ stood)
     ]
 
--- ---- The same of a machine whose accesses all can be carried out
+-- ---- The same of a machine whose pending accesses all can be served
 
 -- there is no next event exactly where the vCPU is halted, or is not there
 pub served_next-none : (m : MachineData) (k : ℕ) → ServesAll m → (next m k ≡ None) ↔ (halted_at m k ≡ true)

@@ -9,7 +9,8 @@ use Rattle.ram_block.proofs.Pages.{drop-zero_page}
 use Rattle.ram_block.specs.Page.{zero_page}
 use Rattle.ram_block.specs.Shape.{ShapeData}
 use Rattle.ram_block.specs.declared.page_buf.TheConstants.{PAGE}
-use Rattle.rv64i_step.specs.Vcpu.{VcpuData, IsPlaced, boot_vcpu}
+use Rattle.rv64i_step.specs.Event.{IsServable}
+use Rattle.rv64i_step.specs.Vcpu.{VcpuData, boot_vcpu}
 use Rattle.flat_machine.specs.Machine.{MachineData, Rest}
 use Rattle.flat_machine.specs.Page.{joined}
 
@@ -129,5 +130,5 @@ boot_rests m n is clock = record {
 }
 
 -- no vCPU at boot has a pending access
-pub boot_placed : (shape : ShapeData) (n : ℕ) (vcpus : List VcpuData) → vcpus ≡ map boot_vcpu (range_with_len 0 n) → All (IsPlaced shape) vcpus
-boot_placed shape n vcpus is = subst (All (IsPlaced shape)) (sym is) (all_boot (IsPlaced shape) n (λ number. tt))
+pub boot_servable : (shape : ShapeData) (n : ℕ) (vcpus : List VcpuData) → vcpus ≡ map boot_vcpu (range_with_len 0 n) → All (IsServable shape) vcpus
+boot_servable shape n vcpus is = subst (All (IsServable shape)) (sym is) (all_boot (IsServable shape) n (λ number. tt))

@@ -6,7 +6,8 @@ use Rattle.ram_block.specs.declared.place.Place.{Place}
 use Rattle.ram_block.specs.declared.place.Place.TheVariants as places
 use Rattle.ram_block.specs.declared.place.SerialReg.TheVariants.{Tx, Rx, Status}
 use Rattle.ram_block.specs.declared.place.TimerReg.TheVariants.{Cmp}
-use Rattle.ram_block.specs.declared.place.Width.TheVariants.{Four}
+use Rattle.ram_block.specs.declared.place.Width.TheVariants.{One, Four}
+use Rattle.rv64i_step.specs.Access.{low_bytes}
 use Rattle.rv64i_step.specs.Amo.{amo_written}
 use Rattle.rv64i_step.specs.declared.request.Request.{Request}
 use Rattle.rv64i_step.specs.declared.request.Request.TheVariants.{Fetch, Load, Store, Amo}
@@ -40,10 +41,11 @@ page_gives (Load (places.Ram page off) width) bytes = number_at width bytes off
 page_gives (Amo (places.Ram page off) width op value) bytes = number_at width bytes off
 page_gives _ bytes = 0
 
--- what a page becomes: an AMO reads its place and writes its result there
+-- what a page becomes: an AMO reads its place and writes its result there; of a value the low bytes count, as many as
+-- the width says
 unfoldable pub page_after : Request → List ℕ → List ℕ
-page_after (Store (places.Ram page off) width value) bytes = with_number width bytes off value
-page_after (Amo (places.Ram page off) width op value) bytes = with_number width bytes off (amo_written op width (number_at width bytes off) value)
+page_after (Store (places.Ram page off) width value) bytes = with_number width bytes off (low_bytes width value)
+page_after (Amo (places.Ram page off) width op value) bytes = with_number width bytes off (amo_written op width (number_at width bytes off) (low_bytes width value))
 page_after _ bytes = bytes
 
 -- what the serial device gives
@@ -55,7 +57,7 @@ serial_gives _ s = 0
 -- what the serial device becomes
 unfoldable pub serial_after : Request → SerialData → SerialData
 serial_after (Load (places.Serial Rx) width) s = received s
-serial_after (Store (places.Serial Tx) width value) s = sent s value
+serial_after (Store (places.Serial Tx) width value) s = sent s (low_bytes One value)
 serial_after _ s = s
 
 -- what the timer gives at a time, which is the number of events before this one

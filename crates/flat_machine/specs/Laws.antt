@@ -1,11 +1,11 @@
 -- What the laws of events and runs say (this project's own events, docs/MACHINE.md).
-use Rattle.std.specs.Prelude.{◌≡◌, ◌≢◌, ℕ, ◌+◌, ◌*◌, ◌^◌, ◌<◌, ◌≤◌, List, length, slice_get, All, Option, Some, None, IsSome, IfSome}
+use Rattle.std.specs.Prelude.{◌≡◌, ◌≢◌, ℕ, ◌+◌, ◌*◌, ◌^◌, ◌<◌, ◌≤◌, List, length, slice_get, All, Option, Some, None, IsSome}
 use Rattle.ram_block.specs.Shape.{ShapeData, ram_bytes_of, total_pages_of}
 use Rattle.ram_block.specs.declared.page_buf.TheConstants.{PAGE}
-use Rattle.rv64i_step.specs.Event.{request_of}
+use Rattle.rv64i_step.specs.Event.{IsServable, request_of}
 use Rattle.rv64i_step.specs.Outcome.{FetchOutcome, Finishes}
 use Rattle.rv64i_step.specs.Request.{written_page}
-use Rattle.rv64i_step.specs.Vcpu.{VcpuData, IsPending, IsPlaced}
+use Rattle.rv64i_step.specs.Vcpu.{VcpuData}
 use Rattle.rv64i_step.specs.declared.state.State.TheVariants.{Running}
 use Rattle.flat_machine.specs.Cell.{CellName, PageCell, SerialCell, TimerCell, Content, Page, Serial, Timer, content}
 use Rattle.flat_machine.specs.Machine.{MachineData}
@@ -18,13 +18,8 @@ IsContentOf shape SerialCell (Serial s) = Unit {0}
 IsContentOf shape TimerCell (Timer cmp) = Unit {0}
 IsContentOf shape _ _ = ⊥
 
--- a machine of this shape can carry out the pending access, where there is one
-pub record IsServable (shape : ShapeData) (v : VcpuData) : Type 0 where
-  pub pending : IfSome v.pending (λ access. IsPending access.place access.instr)
-  pub placed : IsPlaced shape v
-
 -- what the laws of an event need of a machine, and each event keeps: RAM has the bytes of its shape, and each pending
--- access can be carried out
+-- access can be served
 pub record ServesAll (m : MachineData) : Type 0 where
   pub ram : length m.ram ≡ ram_bytes_of m.shape
   pub each : All (IsServable m.shape) m.vcpus

@@ -3,7 +3,8 @@
 use Rattle.std.specs.Prelude.{◌≡◌, ℕ, ◌-◌, ◌^◌, ◌<◌, ◌≤◌, List, [], ◌++◌, length, map, replicate, None, All}
 use Rattle.std.specs.List.{range_with_len}
 use Rattle.ram_block.specs.Shape.{ShapeData, IsShape, ram_bytes_of}
-use Rattle.rv64i_step.specs.Vcpu.{VcpuData, IsPlaced, IsVcpu, boot_vcpu}
+use Rattle.rv64i_step.specs.Event.{IsServable}
+use Rattle.rv64i_step.specs.Vcpu.{VcpuData, IsVcpu, boot_vcpu}
 use Rattle.serial_timer.specs.Serial.{SerialData, IsSerial}
 use Rattle.flat_machine.specs.Page.{page_at}
 
@@ -26,13 +27,13 @@ pub record IsSized (m : MachineData) : Type 0 where
   pub vcpus : length m.vcpus ≡ m.shape.vcpus
   pub regs : All (λ v. length v.regs ≡ 31) m.vcpus
 
--- within the limits: each part as the shape has it, and each pending access at a page that is there
+-- within the limits: each part as the shape has it, and each pending access one that it can serve
 pub record IsMachine (m : MachineData) : Type 0 where
   pub shape : IsShape m.shape
   pub ram : length m.ram ≡ ram_bytes_of m.shape
   pub vcpus : length m.vcpus ≡ m.shape.vcpus
   pub each : All IsVcpu m.vcpus
-  pub placed : All (IsPlaced m.shape) m.vcpus
+  pub servable : All (IsServable m.shape) m.vcpus
   pub serial : IsSerial m.serial
   pub cmp : m.cmp < 2 ^ 64
   pub clock : m.clock ≤ 2 ^ 63

@@ -2,7 +2,7 @@
 -- docs/MACHINE.md).
 use Rattle.std.specs.Prelude.{◌≡◌, ℕ, ◌+◌, ◌-◌, ◌*◌, ◌<◌, ◌≤◌, length, slice_get, Option, Some, None}
 use Rattle.std.specs.Option.{option_map_or}
-use Rattle.rv64i_step.specs.Outcome.{AccessesMemory}
+use Rattle.rv64i_step.specs.Access.{AccessesMemory}
 use Rattle.rv64i_step.specs.Vcpu.{VcpuData}
 use Rattle.rv64i_step.specs.declared.access.Access.{Access}
 use Rattle.rv64i_step.specs.declared.state.State.{State}

@@ -2,7 +2,8 @@ ghost use Rattle.std.specs.Prelude.{◌≡◌, ◌≤◌, ◌<◌, ◌+◌, ◌-
 ghost use Rattle.std.specs.List.{range_with_len};
 ghost use Rattle.ram_block.specs.Shape.{ram_bytes_of, total_pages_of};
 ghost use Rattle.ram_block.specs.declared.page_buf.TheConstants.{PAGE};
-ghost use Rattle.rv64i_step.specs.Vcpu.{IsPlaced, boot_vcpu};
+ghost use Rattle.rv64i_step.specs.Event.{IsServable};
+ghost use Rattle.rv64i_step.specs.Vcpu.{boot_vcpu};
 ghost use Rattle.serial_timer.specs.declared.serial.TheConstants.{MAX_SERIAL_INPUT};
 ghost use Rattle.flat_machine.specs.Machine.{boot, IsMachine, Rest};
 ghost use Rattle.flat_machine.specs.Page.{joined};
@@ -81,11 +82,11 @@ fn fill_front(page: &mut [u8], bytes: &[u8])
 }
 
 // As many vCPUs as the shape has.
-#[tactic(auto, using(crate::proofs::Padded::boot_placed))]
+#[tactic(auto, using(crate::proofs::Padded::boot_servable))]
 fn boot_vcpus(alloc: Global, shape: &Shape) -> Result<Vec<Vcpu>, NoMemory>
     ensures vcpus { IfOk result (λ vcpus. vcpus.items ≡ map boot_vcpu (range_with_len 0 shape.now.vcpus)) }
     ensures count { IfOk result (λ vcpus. vec_len vcpus ≡ shape.now.vcpus) }
-    ensures placed { IfOk result (λ vcpus. All (IsPlaced shape.now) vcpus.items) }
+    ensures servable { IfOk result (λ vcpus. All (IsServable shape.now) vcpus.items) }
 {
     let mut vcpus = Vec::with_capacity(alloc, shape.vcpus() as usize)?;
     for k in 0..shape.vcpus() {

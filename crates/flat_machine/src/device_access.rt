@@ -29,7 +29,7 @@ pub fn apply_to_serial(serial: &mut Serial, request: &Request) -> u64
             value,
             ..
         } => {
-            serial.write(value as u8);
+            serial.write((value % (1 << 8)) as u8);
             0
         }
         _ => unreachable!(),

@@ -1,7 +1,8 @@
 ghost use Rattle.std.specs.Prelude.{◌≡◌, ◌^◌, ◌<◌, ◌≤◌, ◌↔◌, length, slice_get, slice_index, vec_len, All, IsTrue, None, Some};
 ghost use Rattle.ram_block.specs.Shape.{IsShape, ram_bytes_of, total_pages_of};
 ghost use Rattle.ram_block.specs.declared.page_buf.TheConstants.{PAGE};
-ghost use Rattle.rv64i_step.specs.Vcpu.{IsPlaced, IsVcpu};
+ghost use Rattle.rv64i_step.specs.Event.{IsServable};
+ghost use Rattle.rv64i_step.specs.Vcpu.{IsVcpu};
 ghost use Rattle.serial_timer.specs.Serial.{IsSerial};
 ghost use Rattle.flat_machine.specs.Page.{joined};
 
@@ -26,7 +27,8 @@ impl Model for Machine {
     ghost use Rattle.std.specs.Prelude.{◌≡◌, ◌^◌, ◌<◌, ◌≤◌, length, vec_len, All};
     ghost use Rattle.ram_block.specs.Shape.{IsShape, total_pages_of};
     ghost use Rattle.ram_block.specs.declared.page_buf.TheConstants.{PAGE};
-    ghost use Rattle.rv64i_step.specs.Vcpu.{IsPlaced, IsVcpu};
+    ghost use Rattle.rv64i_step.specs.Event.{IsServable};
+    ghost use Rattle.rv64i_step.specs.Vcpu.{IsVcpu};
     ghost use Rattle.serial_timer.specs.Serial.{IsSerial};
     ghost use Rattle.flat_machine.specs.Machine.{MachineData};
     ghost use Rattle.flat_machine.specs.Page.{joined};
@@ -41,7 +43,7 @@ impl Model for Machine {
       whole : All (λ page. length page ≡ PAGE) m.ram.items;
       vcpus : vec_len m.vcpus ≡ m.shape.vcpus;
       each : All IsVcpu m.vcpus.items;
-      placed : All (IsPlaced m.shape) m.vcpus.items;
+      servable : All (IsServable m.shape) m.vcpus.items;
       serial : IsSerial m.serial;
       cmp : m.timer < 2 ^ 64;
       clock : m.clock ≤ 2 ^ 63;
@@ -74,7 +76,7 @@ impl Machine {
     ) -> Machine
         requires pages { vec_len ram ≡ total_pages_of shape }
         requires vcpus { vec_len vcpus ≡ shape.vcpus }
-        requires placed { All (IsPlaced shape) vcpus.items }
+        requires servable { All (IsServable shape) vcpus.items }
         requires clock { clock ≤ 2 ^ 63 }
         ensures parts { result ≡ record { shape = shape; ram = joined ram.items; vcpus = vcpus.items; serial = serial; cmp = timer; clock = clock } }
         ensures limits { IsMachine result }

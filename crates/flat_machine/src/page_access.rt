@@ -8,7 +8,7 @@ ghost use Rattle.flat_machine.specs.Fits.{FitsPage, IsWordIfFetched};
 ghost use Rattle.flat_machine.specs.Page.{number_at, with_number};
 
 use ram_block::{PAGE, PageBuf, Place, Width};
-use rv64i_step::{Request, amo_result};
+use rv64i_step::{Request, amo_result, low_bytes_of};
 
 /// A page's part of an event: answers the word fetched, the value loaded, or the value that an AMO found, and 0 to
 /// a store.
@@ -41,7 +41,7 @@ pub fn apply_to_page(page: &mut PageBuf, request: &Request) -> u64
             value,
         } => {
             let found = number_in(page.bytes(), off as usize, width);
-            let written = amo_result(op, width, found, value);
+            let written = amo_result(op, width, found, low_bytes_of(width, value));
             put_number(page.bytes_mut(), off as usize, width, written);
             found
         }
@@ -91,17 +91,16 @@ fn double_in(bytes: &[u8]) -> u64
     u64::from_le_bytes(field)
 }
 
-// Writes a number at a place.
+// Writes the low bytes of a number at a place.
 #[tactic(auto, unfolding(crate::specs::Page::with_number))]
 fn put_number(bytes: &mut [u8], off: usize, width: Width, value: u64)
-    requires place { off + width_bytes width ≤ length bytes.old }
-    requires value { value ≡ low_bytes width value }
-    ensures { bytes.new ≡ with_number width bytes.old off value }
+    requires { off + width_bytes width ≤ length bytes.old }
+    ensures { bytes.new ≡ with_number width bytes.old off (low_bytes width value) }
 {
     match width {
-        Width::One => bytes[off] = value as u8,
-        Width::Two => bytes[off..off + 2].copy_from_slice(&(value as u16).to_le_bytes()),
-        Width::Four => bytes[off..off + 4].copy_from_slice(&(value as u32).to_le_bytes()),
+        Width::One => bytes[off] = (value % (1 << 8)) as u8,
+        Width::Two => bytes[off..off + 2].copy_from_slice(&((value % (1 << 16)) as u16).to_le_bytes()),
+        Width::Four => bytes[off..off + 4].copy_from_slice(&((value % (1 << 32)) as u32).to_le_bytes()),
         Width::Eight => bytes[off..off + 8].copy_from_slice(&value.to_le_bytes()),
     }
 }

@@ -1,8 +1,8 @@
-ghost use Rattle.std.specs.Prelude.{◌≡◌, ◌<◌, ◌≤◌, ◌+◌, ◌^◌, ◌↔◌, ℕ, All, true};
-ghost use Rattle.rv64i_step.specs.Vcpu.{HasPage};
+ghost use Rattle.std.specs.Prelude.{◌≡◌, ◌<◌, ◌≤◌, ◌+◌, ◌^◌, ◌↔◌, ℕ, All, Some, true};
+ghost use Rattle.rv64i_step.specs.Request.{CanServe};
 ghost use Rattle.flat_machine.specs.Cell.{cell_at, content, content_after, gives, with_content};
-ghost use Rattle.flat_machine.specs.Fits.{FitsCell};
 ghost use Rattle.flat_machine.specs.Machine.{IsMachine};
+ghost use Rattle.flat_machine.specs.Next.{cell_of};
 ghost use Rattle.flat_machine.specs.Run.{halted_at, steps_of};
 ghost use Rattle.flat_machine.specs.declared.step.Stepped.TheVariants.{Halted};
 
@@ -57,9 +57,10 @@ impl Machine {
     }
 
     // The part of an event that the cell of a place has.
+    #[tactic(auto, using(crate::proofs::Served::serving, crate::proofs::Pages::ram_len))]
     fn serve(&mut self, place: Place, request: &Request) -> u64
-        requires fits { FitsCell place request.now }
-        requires page { HasPage self.old.shape place }
+        requires can { CanServe self.old.shape request.now }
+        requires place { cell_of request.now ≡ Some (cell_at place) }
         ensures gives { result ≡ gives request.now (content self.old (cell_at place)) self.old.clock }
         ensures after { self.new ≡ with_content self.old (cell_at place) (content_after request.now (content self.old (cell_at place))) }
         ensures shape { self.new.shape ≡ self.old.shape }

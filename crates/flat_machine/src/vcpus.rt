@@ -1,6 +1,7 @@
 ghost use Rattle.std.specs.Prelude.{◌≡◌, ◌<◌, ◌≤◌, ◌+◌, ◌^◌, ℕ, length, slice_get, slice_set, vec_len, All, Some, IsSome};
-ghost use Rattle.rv64i_step.specs.Event.{accessed_vcpu, fetched_vcpu, request_of, IsStage, CanServe, RequestsPage};
-ghost use Rattle.rv64i_step.specs.Vcpu.{IsPlaced, IsReady, IsVcpu, VcpuData};
+ghost use Rattle.rv64i_step.specs.Event.{accessed_vcpu, fetched_vcpu, request_of, IsServable, IsStage};
+ghost use Rattle.rv64i_step.specs.Request.{CanServe};
+ghost use Rattle.rv64i_step.specs.Vcpu.{IsReady, IsVcpu, VcpuData};
 
 use ram_block::Shape;
 use rv64i_step::{Request, Vcpu};
@@ -8,11 +9,10 @@ use rv64i_step::{Request, Vcpu};
 /// The request of a vCPU in a list.
 pub(crate) fn request_of(vcpus: &[Vcpu], k: usize, shape: &Shape) -> Request
     requires vcpu { k < length vcpus.now }
-    requires placed { All (IsPlaced shape.now) vcpus.now }
+    requires servable { All (IsServable shape.now) vcpus.now }
     ensures request { (v : VcpuData) → slice_get vcpus.now k ≡ Some v → result ≡ request_of shape.now v }
     ensures stage { (v : VcpuData) → slice_get vcpus.now k ≡ Some v → IsStage v result }
     ensures servable { CanServe shape.now result }
-    ensures page { RequestsPage shape.now result }
 {
     vcpus[k].request(shape)
 }
@@ -22,12 +22,12 @@ pub(crate) fn fetch_into(vcpus: &mut Vec<Vcpu>, k: usize, shape: &Shape, word: O
     requires vcpu { k < vec_len vcpus.old }
     requires ready { (v : VcpuData) → slice_get vcpus.old.items k ≡ Some v → IsReady v }
     requires each { All IsVcpu vcpus.old.items }
-    requires placed { All (IsPlaced shape.now) vcpus.old.items }
+    requires servable { All (IsServable shape.now) vcpus.old.items }
     ensures event { (v : VcpuData) → slice_get vcpus.old.items k ≡ Some v → vcpus.new.items ≡ slice_set vcpus.old.items k (fetched_vcpu shape.now v word) }
     ensures count { vec_len vcpus.new ≡ vec_len vcpus.old }
     ensures steps { (most : ℕ) → All (λ v. v.steps ≤ most) vcpus.old.items → All (λ v. v.steps ≤ most + 1) vcpus.new.items }
     ensures each { All IsVcpu vcpus.new.items }
-    ensures placed { All (IsPlaced shape.now) vcpus.new.items }
+    ensures servable { All (IsServable shape.now) vcpus.new.items }
 {
     vcpus[k].fetched(shape, word);
 }
@@ -38,12 +38,12 @@ pub(crate) fn access_into(vcpus: &mut Vec<Vcpu>, k: usize, shape: &Shape, value:
     requires pending { (v : VcpuData) → slice_get vcpus.old.items k ≡ Some v → IsSome v.pending }
     requires steps { (v : VcpuData) → slice_get vcpus.old.items k ≡ Some v → v.steps < 2 ^ 63 }
     requires each { All IsVcpu vcpus.old.items }
-    requires placed { All (IsPlaced shape.now) vcpus.old.items }
+    requires servable { All (IsServable shape.now) vcpus.old.items }
     ensures event { (v : VcpuData) → slice_get vcpus.old.items k ≡ Some v → vcpus.new.items ≡ slice_set vcpus.old.items k (accessed_vcpu v value) }
     ensures count { vec_len vcpus.new ≡ vec_len vcpus.old }
     ensures steps { (most : ℕ) → All (λ v. v.steps ≤ most) vcpus.old.items → All (λ v. v.steps ≤ most + 1) vcpus.new.items }
     ensures each { All IsVcpu vcpus.new.items }
-    ensures placed { All (IsPlaced shape.now) vcpus.new.items }
+    ensures servable { All (IsServable shape.now) vcpus.new.items }
 {
     vcpus[k].accessed(value);
 }

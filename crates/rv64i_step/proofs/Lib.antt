@@ -1,7 +1,7 @@
-pub mod Accesses
 pub mod Chosen
 pub mod Jumps
 pub mod Outcomes
 pub mod Registers
 pub mod Requests
+pub mod Servable
 pub mod Words

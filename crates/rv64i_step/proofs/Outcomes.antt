@@ -10,13 +10,13 @@ use Rattle.ram_block.specs.declared.place.Way.TheVariants as ways
 use Rattle.rv64i_decode.specs.Decode.{instr_of}
 use Rattle.rv64i_decode.specs.declared.instr.Instr.{Instr}
 use Rattle.rv64i_decode.specs.declared.instr.Instr.TheVariants.{Lui, Auipc, Jal, Jalr, Branch, Load, Store, Imm, Shift, ImmW, ShiftW, Op, OpW, Fence, Ecall, Ebreak, Amo}
-use Rattle.rv64i_step.specs.Access.{load_width, store_width, amo_width, loaded, extended}
+use Rattle.rv64i_step.specs.Access.{AccessesMemory, load_width, store_width, amo_width, loaded, extended}
 use Rattle.rv64i_step.specs.Arithmetic.{bits64, sum64, is_taken}
 use Rattle.rv64i_step.specs.Event.{request_of, decoded, unfetched, fetched_vcpu, made, access_made, accessed_vcpu}
 use Rattle.rv64i_step.specs.Execute.{executed, jumps, aimed, address_of, even}
-use Rattle.rv64i_step.specs.Outcome.{AccessesMemory, HaltsWith, Finishes, FetchOutcome, Halting, Awaiting, Finishing}
+use Rattle.rv64i_step.specs.Outcome.{HaltsWith, Finishes, FetchOutcome, Halting, Awaiting, Finishing}
 use Rattle.rv64i_step.specs.Laws.{FetchesEnd}
-use Rattle.rv64i_step.specs.Vcpu.{IsPending, VcpuData, with_reg, next_pc, finished, halted, reg_of}
+use Rattle.rv64i_step.specs.Vcpu.{VcpuData, with_reg, next_pc, finished, halted, reg_of}
 use Rattle.rv64i_step.specs.declared.access.Access.{Access}
 use Rattle.rv64i_step.specs.declared.request.Request.{Request}
 use Rattle.rv64i_step.specs.declared.request.Request.TheVariants.{NoFetch}
@@ -143,13 +143,6 @@ pub fetch_pending_kind : (shape : ShapeData) (v : VcpuData) (word : ℕ) (access
     (fetched_vcpu shape v (Some word)).pending ≡ Some access → AccessesMemory access.instr
 fetch_pending_kind shape v word access none pending =
     pending_kind v (fetched_vcpu shape v (Some word)) access (fetch_outcome shape v word none) pending
-
--- so is an access that a vCPU keeps pending
-pub pending_accesses : (place : Place) (instr : Instr) → IsPending place instr → AccessesMemory instr
-pending_accesses place (Load op rd rs1 off) pending = tt
-pending_accesses place (Store op rs1 rs2 off) pending = tt
-pending_accesses place (Amo op wide rd rs1 rs2 order) pending = tt
-pending_accesses place _ pending = absurd pending
 
 pub fetches_end : FetchesEnd
 fetches_end = record { word = fetch_outcome; none = no_fetch_outcome }

@@ -10,9 +10,10 @@ use Rattle.ram_block.specs.declared.place.Way.TheVariants as ways
 use Rattle.ram_block.specs.declared.place.Width.TheVariants.{Four}
 use Rattle.rv64i_decode.specs.declared.instr.Instr.{Instr}
 use Rattle.rv64i_decode.specs.declared.instr.Instr.TheVariants.{Load, Store, Amo}
+use Rattle.rv64i_step.specs.Access.{AccessesMemory}
 use Rattle.rv64i_step.specs.Event.{request_of, request_in, running_request, access_of, fetch_at}
 use Rattle.rv64i_step.specs.Laws.{AsksWhileRunning, OutcomesDiffer}
-use Rattle.rv64i_step.specs.Outcome.{AccessesMemory, HaltsWith, AwaitsAccess, Finishes}
+use Rattle.rv64i_step.specs.Outcome.{HaltsWith, AwaitsAccess, Finishes}
 use Rattle.rv64i_step.specs.Vcpu.{VcpuData}
 use Rattle.rv64i_step.specs.declared.access.Access.{Access}
 use Rattle.rv64i_step.specs.declared.request.Request.TheVariants.{Nothing}

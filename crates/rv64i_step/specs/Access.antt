@@ -1,19 +1,22 @@
 -- The accesses of loads, stores and AMOs: how wide they are, and what a load makes of the bytes that it gets
 -- (RISC-V Unprivileged ISA, Load and Store Instructions; "A" Extension, Atomic Memory Operations).
-use Rattle.std.specs.Prelude.{◌≡◌, ℕ, ◌+◌, ◌%◌, ◌^◌, ◌≤◌, Bool, true, false}
+use Rattle.std.specs.Prelude.{ℕ, ◌%◌, ◌^◌, Bool, true, false}
 use Rattle.std.specs.Int.{w8, w16, w32, w64, cast_signed, cast_unsigned}
-use Rattle.ram_block.specs.AddressMap.{width_bytes}
-use Rattle.ram_block.specs.Devices.{IsRegisterAccess}
-use Rattle.ram_block.specs.declared.page_buf.TheConstants.{PAGE}
-use Rattle.ram_block.specs.declared.place.Place.{Place}
-use Rattle.ram_block.specs.declared.place.Place.TheVariants.{Ram}
-use Rattle.ram_block.specs.declared.place.Way.{Way}
 use Rattle.ram_block.specs.declared.place.Width.{Width}
 use Rattle.ram_block.specs.declared.place.Width.TheVariants.{One, Two, Four, Eight}
+use Rattle.rv64i_decode.specs.declared.instr.Instr.{Instr}
+use Rattle.rv64i_decode.specs.declared.instr.Instr.TheVariants.{Load, Store, Amo}
 use Rattle.rv64i_decode.specs.declared.op.LoadOp.{LoadOp}
 use Rattle.rv64i_decode.specs.declared.op.LoadOp.TheVariants.{Lb, Lh, Lw, Ld, Lbu, Lhu, Lwu}
 use Rattle.rv64i_decode.specs.declared.op.StoreOp.{StoreOp}
 use Rattle.rv64i_decode.specs.declared.op.StoreOp.TheVariants.{Sb, Sh, Sw, Sd}
+
+-- the instruction is a load, a store or an AMO
+abbrev pub AccessesMemory : Instr → Type 0
+AccessesMemory (Load op rd rs1 off) = Unit {0}
+AccessesMemory (Store op rs1 rs2 off) = Unit {0}
+AccessesMemory (Amo op wide rd rs1 rs2 order) = Unit {0}
+AccessesMemory _ = ⊥
 
 -- how many bytes each access moves
 abbrev pub load_width : LoadOp → Width
@@ -58,8 +61,3 @@ loaded Ld a = extended Eight a
 loaded Lbu a = low_bytes One a
 loaded Lhu a = low_bytes Two a
 loaded Lwu a = low_bytes Four a
-
--- an access of this width and way can be carried out at the place: within one page, or as the device table has it
-abbrev pub CanAccess : Width → Way → Place → Type 0
-CanAccess width way (Ram page off) = (off + width_bytes width ≤ PAGE) × (off % width_bytes width ≡ 0)
-CanAccess width way place = IsRegisterAccess place width way

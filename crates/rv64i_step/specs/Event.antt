@@ -1,19 +1,20 @@
 -- A vCPU's part of an event: what it asks for, and what it becomes (this project's own events, docs/MACHINE.md).
-use Rattle.std.specs.Prelude.{◌≡◌, ◌≢◌, ◌<◌, ◌⊎◌, ℕ, Option, Some, None, IsSome, Result, Ok, Err}
-use Rattle.ram_block.specs.AddressMap.{located, IsRamAccess}
-use Rattle.ram_block.specs.Shape.{ShapeData, total_pages_of}
+use Rattle.std.specs.Prelude.{◌≡◌, ◌≢◌, ℕ, Option, Some, None, IsSome, IfSome, Result, Ok, Err}
+use Rattle.ram_block.specs.AddressMap.{located}
+use Rattle.ram_block.specs.Shape.{ShapeData}
 use Rattle.ram_block.specs.declared.cause.Cause.{Cause}
 use Rattle.ram_block.specs.declared.cause.Cause.TheVariants as causes
 use Rattle.ram_block.specs.declared.place.Place.{Place}
 use Rattle.ram_block.specs.declared.place.Place.TheVariants.{Ram}
 use Rattle.ram_block.specs.declared.place.Way.TheVariants as ways
-use Rattle.ram_block.specs.declared.place.Width.TheVariants.{Four, Eight}
+use Rattle.ram_block.specs.declared.place.Width.TheVariants.{Four}
 use Rattle.rv64i_decode.specs.Decode.{instr_of}
 use Rattle.rv64i_decode.specs.declared.instr.Instr.{Instr}
 use Rattle.rv64i_decode.specs.declared.instr.Instr.TheVariants as instrs
-use Rattle.rv64i_step.specs.Access.{load_width, store_width, amo_width, low_bytes, extended, loaded, CanAccess}
+use Rattle.rv64i_step.specs.Access.{AccessesMemory, load_width, store_width, amo_width, low_bytes, extended, loaded}
 use Rattle.rv64i_step.specs.Execute.{executed}
-use Rattle.rv64i_step.specs.Vcpu.{VcpuData, HasPage, reg_of, next_pc, finished, writes, halted}
+use Rattle.rv64i_step.specs.Request.{CanServe}
+use Rattle.rv64i_step.specs.Vcpu.{VcpuData, reg_of, next_pc, finished, writes, halted}
 use Rattle.rv64i_step.specs.declared.access.Access.{Access}
 use Rattle.rv64i_step.specs.declared.request.Request.{Request}
 use Rattle.rv64i_step.specs.declared.request.Request.TheVariants.{Nothing, NoFetch, Fetch, Load, Store, Amo}
@@ -47,16 +48,10 @@ request_in (Halted cause) request = Nothing
 unfoldable pub request_of : ShapeData → VcpuData → Request
 request_of shape v = request_in v.state (running_request shape v v.pending)
 
--- the request can be served by a machine of this shape that has its page: within one page, or as the device table
--- has it; a value has no bits above its width
-abbrev pub CanServe : ShapeData → Request → Type 0
-CanServe shape Nothing = Unit {0}
-CanServe shape (NoFetch cause) = Unit {0}
-CanServe shape (Fetch page off) = IsRamAccess shape Four page off
-CanServe shape (Load place width) = CanAccess width ways.Load place
-CanServe shape (Store place width value) = CanAccess width ways.Store place × (value ≡ low_bytes width value)
-CanServe shape (Amo place width op value) =
-    CanAccess width ways.Amo place × (value ≡ low_bytes width value) × ((width ≡ Four) ⊎ (width ≡ Eight))
+-- a machine of this shape can serve the access that is pending, where there is one
+abbrev pub IsServable : ShapeData → VcpuData → Type 0
+IsServable shape v =
+    IfSome v.pending (λ access. AccessesMemory access.instr × CanServe shape (access_of v access.place access.instr))
 
 -- how far the vCPU is that makes the request: it fetches next, or has still to make an access, or is halted
 abbrev pub IsStage : VcpuData → Request → Type 0
@@ -66,14 +61,6 @@ IsStage v (Fetch page off) = (v.state ≡ Running) × (v.pending ≡ None)
 IsStage v (Load place width) = (v.state ≡ Running) × IsSome v.pending
 IsStage v (Store place width value) = (v.state ≡ Running) × IsSome v.pending
 IsStage v (Amo place width op value) = (v.state ≡ Running) × IsSome v.pending
-
--- a machine of this shape has the page of the request
-abbrev pub RequestsPage : ShapeData → Request → Type 0
-RequestsPage shape (Fetch page off) = page < total_pages_of shape
-RequestsPage shape (Load place width) = HasPage shape place
-RequestsPage shape (Store place width value) = HasPage shape place
-RequestsPage shape (Amo place width op value) = HasPage shape place
-RequestsPage shape _ = Unit {0}
 
 -- the vCPU after a fetch that has no place
 abbrev pub unfetched : VcpuData → Request → VcpuData

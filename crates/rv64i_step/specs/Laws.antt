@@ -14,12 +14,12 @@ use Rattle.rv64i_decode.specs.declared.op.BranchOp.TheVariants.{Beq, Bne, Blt, B
 use Rattle.rv64i_decode.specs.declared.op.RegWOp.{RegWOp}
 use Rattle.rv64i_decode.specs.declared.op.ShiftOp.{ShiftOp}
 use Rattle.rv64i_decode.specs.declared.op.StoreOp.{StoreOp}
-use Rattle.rv64i_step.specs.Access.{low_bytes}
+use Rattle.rv64i_step.specs.Access.{AccessesMemory, low_bytes}
 use Rattle.rv64i_step.specs.Amo.{amo_written}
 use Rattle.rv64i_step.specs.Arithmetic.{bits64, sum64, low_word, extended_word, is_taken}
 use Rattle.rv64i_step.specs.Event.{request_of, fetched_vcpu, accessed_vcpu}
 use Rattle.rv64i_step.specs.Execute.{executed, address_of, even}
-use Rattle.rv64i_step.specs.Outcome.{AccessesMemory, HaltsWith, AwaitsAccess, Finishes, FetchOutcome}
+use Rattle.rv64i_step.specs.Outcome.{HaltsWith, AwaitsAccess, Finishes, FetchOutcome}
 use Rattle.rv64i_step.specs.Vcpu.{VcpuData, reg_of, with_reg, next_pc}
 use Rattle.rv64i_step.specs.declared.access.Access.{Access}
 use Rattle.rv64i_step.specs.declared.request.Request.TheVariants.{Nothing, NoFetch}

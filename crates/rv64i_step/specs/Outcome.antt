@@ -1,18 +1,10 @@
 -- What can come of one event of a vCPU, case by case (this project's own events, docs/MACHINE.md).
 use Rattle.std.specs.Prelude.{◌≡◌, ◌+◌, Some, None}
 use Rattle.ram_block.specs.declared.cause.Cause.{Cause}
-use Rattle.rv64i_decode.specs.declared.instr.Instr.{Instr}
-use Rattle.rv64i_decode.specs.declared.instr.Instr.TheVariants.{Load, Store, Amo}
+use Rattle.rv64i_step.specs.Access.{AccessesMemory}
 use Rattle.rv64i_step.specs.Vcpu.{VcpuData}
 use Rattle.rv64i_step.specs.declared.access.Access.{Access}
 use Rattle.rv64i_step.specs.declared.state.State.TheVariants.{Halted}
-
--- the instruction is a load, a store or an AMO
-abbrev pub AccessesMemory : Instr → Type 0
-AccessesMemory (Load op rd rs1 off) = Unit {0}
-AccessesMemory (Store op rs1 rs2 off) = Unit {0}
-AccessesMemory (Amo op wide rd rs1 rs2 order) = Unit {0}
-AccessesMemory _ = ⊥
 
 -- the vCPU halts with this cause, where it stands
 pub record HaltsWith (v after : VcpuData) (cause : Cause) : Type 0 where

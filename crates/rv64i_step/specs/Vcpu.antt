@@ -1,16 +1,10 @@
 -- A vCPU as plain data (RISC-V Unprivileged ISA, Programmers' Model for Base Integer ISA; the count of steps, the
 -- state and the boot values are this project's own, docs/MACHINE.md).
 use Rattle.std.specs.Prelude.{◌≡◌, ℕ, ◌+◌, ◌-◌, ◌^◌, ◌<◌, ◌==◌, List, length, replicate, slice_index, slice_set, All, Option, None, IfSome, if◌then◌else◌}
-use Rattle.ram_block.specs.Shape.{ShapeData, total_pages_of}
 use Rattle.ram_block.specs.declared.cause.Cause.{Cause}
 use Rattle.ram_block.specs.declared.shape.TheConstants.{RAM_BASE}
-use Rattle.ram_block.specs.declared.place.Place.{Place}
-use Rattle.ram_block.specs.declared.place.Place.TheVariants as places
-use Rattle.ram_block.specs.declared.place.Way.TheVariants as ways
-use Rattle.rv64i_decode.specs.declared.instr.Instr.{Instr}
-use Rattle.rv64i_decode.specs.declared.instr.Instr.TheVariants as instrs
 use Rattle.rv64i_decode.specs.Valid.{IsValid}
-use Rattle.rv64i_step.specs.Access.{load_width, store_width, amo_width, CanAccess}
+use Rattle.rv64i_step.specs.Access.{AccessesMemory}
 use Rattle.rv64i_step.specs.Arithmetic.{sum64}
 use Rattle.rv64i_step.specs.declared.access.Access.{Access}
 use Rattle.rv64i_step.specs.declared.state.State.{State}
@@ -48,30 +42,15 @@ writes v rd value = finished (with_reg v rd value) (next_pc v)
 abbrev pub halted : VcpuData → Cause → VcpuData
 halted v cause = record v { state = Halted cause }
 
--- a pending access belongs to a load, a store or an AMO, and its place has that access
-abbrev pub IsPending : Place → Instr → Type 0
-IsPending place (instrs.Load op rd rs1 off) = CanAccess (load_width op) ways.Load place
-IsPending place (instrs.Store op rs1 rs2 off) = CanAccess (store_width op) ways.Store place
-IsPending place (instrs.Amo op wide rd rs1 rs2 order) = CanAccess (amo_width wide) ways.Amo place
-IsPending place _ = ⊥
-
--- a machine of this shape has the page of a place
-abbrev pub HasPage : ShapeData → Place → Type 0
-HasPage shape (places.Ram page off) = page < total_pages_of shape
-HasPage shape place = Unit {0}
-
--- it has the page of the pending access
-abbrev pub IsPlaced : ShapeData → VcpuData → Type 0
-IsPlaced shape v = IfSome v.pending (λ access. HasPage shape access.place)
-
--- what each vCPU keeps: its registers are 31 numbers of 64 bits, and only a vCPU that runs has a pending access
+-- what each vCPU keeps: its registers are 31 numbers of 64 bits, and only a vCPU that runs has a pending access, of a
+-- load, a store or an AMO
 pub record IsVcpu (v : VcpuData) : Type 0 where
   pub count : length v.regs ≡ 31
   pub regs : All (λ r. r < 2 ^ 64) v.regs
   pub pc : v.pc < 2 ^ 64
   pub steps : v.steps < 2 ^ 64
   pub valid : IfSome v.pending (λ access. IsValid access.instr)
-  pub pending : IfSome v.pending (λ access. IsPending access.place access.instr)
+  pub pending : IfSome v.pending (λ access. AccessesMemory access.instr)
   pub runs : IfSome v.pending (λ access. v.state ≡ Running)
 
 -- a vCPU at boot: its number in x10, and its pc at the start of RAM

@@ -3,9 +3,10 @@ ghost use Rattle.ram_block.specs.AddressMap.{located};
 ghost use Rattle.ram_block.specs.declared.place.Way.TheVariants as ways;
 ghost use Rattle.ram_block.specs.declared.place.Width.TheVariants.{Four};
 ghost use Rattle.rv64i_decode.specs.Valid.{IsValid};
-ghost use Rattle.rv64i_step.specs.Access.{amo_width, extended, load_width, loaded, low_bytes, store_width};
-ghost use Rattle.rv64i_step.specs.Event.{CanServe, IsStage, RequestsPage, access_of, accessed_vcpu, fetch_at, fetched_vcpu, made, request_of};
-ghost use Rattle.rv64i_step.specs.Vcpu.{IsPending, IsPlaced, IsReady, IsVcpu};
+ghost use Rattle.rv64i_step.specs.Access.{AccessesMemory, amo_width, extended, load_width, loaded, low_bytes, store_width};
+ghost use Rattle.rv64i_step.specs.Event.{IsServable, IsStage, access_of, accessed_vcpu, fetch_at, fetched_vcpu, made, request_of};
+ghost use Rattle.rv64i_step.specs.Request.{CanServe};
+ghost use Rattle.rv64i_step.specs.Vcpu.{IsReady, IsVcpu};
 ghost use Rattle.rv64i_step.specs.declared.request.Request.TheVariants.{Nothing};
 ghost use Rattle.rv64i_step.specs.declared.state.State.TheVariants.{Running};
 
@@ -21,8 +22,7 @@ impl Vcpu {
         ensures request { result ≡ request_of shape.now self.now }
         ensures nothing { (result ≡ Nothing) ↔ (self.now.state ≢ Running) }
         ensures stage { IsStage self.now result }
-        ensures servable { CanServe shape.now result }
-        ensures placed { IsPlaced shape.now self.now → RequestsPage shape.now result }
+        ensures servable { IsServable shape.now self.now → CanServe shape.now result }
         ensures limits { IsVcpu self.now }
     {
         match self.state {
@@ -39,7 +39,7 @@ impl Vcpu {
     pub fn fetched(&mut self, shape: &Shape, word: Option<u32>)
         requires ready { IsReady self.old }
         ensures event { self.new ≡ fetched_vcpu shape.now self.old word }
-        ensures placed { IsPlaced shape.now self.new }
+        ensures servable { IsServable shape.now self.new }
         ensures steps { self.new.steps ≤ self.old.steps + 1 }
         ensures limits { IsVcpu self.new }
     {
@@ -74,7 +74,7 @@ impl Vcpu {
 
     // The access that is pending.
     fn access_request(&self, access: Access) -> Request
-        requires place { IsPending access.place access.instr }
+        requires kind { AccessesMemory access.instr }
         requires valid { IsValid access.instr }
         ensures request { result ≡ access_of self.now access.place access.instr }
         ensures something { result ≢ Nothing }
@@ -108,7 +108,7 @@ impl Vcpu {
 
     // The instruction is finished with what its access gave.
     fn finish_access(&mut self, access: Access, value: u64)
-        requires place { IsPending access.place access.instr }
+        requires kind { AccessesMemory access.instr }
         requires steps { self.old.steps < 2 ^ 63 }
         requires valid { IsValid access.instr }
         ensures event { self.new ≡ made self.old value access.instr }
@@ -141,8 +141,8 @@ fn fetch_request(shape: &Shape, pc: u64) -> Request
     }
 }
 
-// The low bytes of a register.
-fn low_bytes_of(width: Width, a: u64) -> u64
+/// The low bytes of a number, as many as an access moves.
+pub fn low_bytes_of(width: Width, a: u64) -> u64
     ensures value { result ≡ low_bytes width a }
     ensures fits { result ≡ low_bytes width result }
 {

@@ -1,12 +1,11 @@
 ghost use Rattle.std.specs.Prelude.{◌≡◌, ◌<◌, ◌≤◌, ◌+◌, ◌-◌, ◌%◌, ◌^◌, ℤ, ℕ, None, if◌then◌else◌};
 ghost use Rattle.ram_block.specs.AddressMap.{located};
 ghost use Rattle.ram_block.specs.declared.cause.Cause.TheVariants as causes;
-ghost use Rattle.ram_block.specs.declared.place.Place.{Place};
 ghost use Rattle.rv64i_decode.specs.Valid.{IsValid};
-ghost use Rattle.rv64i_step.specs.Access.{CanAccess, load_width, store_width, amo_width};
+ghost use Rattle.rv64i_step.specs.Access.{AccessesMemory, load_width, store_width, amo_width};
 ghost use Rattle.rv64i_step.specs.Arithmetic.{bits64, sum64, low_word, extended_word, imm_result, shift_result, shift_w_result, reg_result, reg_w_result, is_taken};
 ghost use Rattle.rv64i_step.specs.Execute.{address_of, aimed, even, executed, jumps};
-ghost use Rattle.rv64i_step.specs.Vcpu.{IsPending, IsPlaced, IsReady, IsVcpu, finished, halted, next_pc, reg_of, with_reg, writes};
+ghost use Rattle.rv64i_step.specs.Vcpu.{IsReady, IsVcpu, finished, halted, next_pc, reg_of, with_reg, writes};
 
 use crate::arithmetic::{
     imm_value, reg_value, reg_w_value, shift_value, shift_w_value, sign_extended, takes_branch,
@@ -24,7 +23,6 @@ impl Vcpu {
         requires valid { IsValid instr }
         ensures event { self.new ≡ executed shape.now self.old instr }
         ensures steps { self.new.steps ≤ self.old.steps + 1 }
-        ensures placed { IsPlaced shape.now self.new }
         ensures limits { IsVcpu self.new }
     {
         match instr {
@@ -136,13 +134,11 @@ impl Vcpu {
     }
 
     // Makes an access pending, or halts.
-    #[tactic(auto, using(crate::proofs::Accesses::can_access, crate::proofs::Accesses::has_page))]
     fn aim(&mut self, shape: &Shape, instr: Instr, address: u64, width: Width, way: Way)
         requires ready { IsReady self.old }
         requires valid { IsValid instr }
-        requires access { (place : Place) → CanAccess width way place → IsPending place instr }
+        requires kind { AccessesMemory instr }
         ensures event { self.new ≡ aimed self.old instr (located shape.now address width way) }
-        ensures placed { IsPlaced shape.now self.new }
         ensures limits { IsVcpu self.new }
     {
         match shape.locate(address, width, way) {

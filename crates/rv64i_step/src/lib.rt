@@ -15,6 +15,7 @@ mod vcpu;
 
 pub use access::Access;
 pub use amo::amo_result;
+pub use event::low_bytes_of;
 pub use laws::{
     accesses_finish, amos_choose, branches_oppose, fetches_end, instructions_write_one_register,
     jumps_land, jumps_link, outcomes_differ, registers_keep, results_are_words,
