@@ -39,6 +39,7 @@ next_past m k none = ap (event_of m k) none
 -- with a request that touches a cell
 event_touches : (m : MachineData) (k : ℕ) (v : VcpuData) (r : Request) (c : CellName) → cell_of r ≡ Some c →
     event_with m k v r ≡ Some (after_cell_event m k v r c)
+unfolding cell_of
 event_touches m k v Nothing c touches = absurd (none-some c touches)
 event_touches m k v (NoFetch cause) c touches = absurd (none-some c touches)
 event_touches m k v (Fetch page off) c touches = ap (λ d. Some (after_cell_event m k v (Fetch page off) d)) (same_Some (PageCell page) c touches)

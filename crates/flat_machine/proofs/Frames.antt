@@ -29,6 +29,7 @@ pub data EventCase (m : MachineData) (k : ℕ) (after : MachineData) : Type 0 wh
 -- by its request
 case_of : (m : MachineData) (k : ℕ) (v : VcpuData) (r : Request) (after : MachineData) → slice_get m.vcpus k ≡ Some v →
     request_of m.shape v ≡ r → event_with m k v r ≡ Some after → EventCase m k after
+unfolding cell_of
 case_of m k v Nothing after stood asks moved = absurd (none-some after moved)
 case_of m k v (NoFetch cause) after stood asks moved = Alone v cause stood asks (sym (same_Some (after_event m k (fetched_vcpu m.shape v None)) after moved))
 case_of m k v (Fetch page off) after stood asks moved =
@@ -56,7 +57,7 @@ event_case m k after moved =
 -- the cell that the event touches is that of its request
 pub event_cell-is : (m : MachineData) (k : ℕ) (v : VcpuData) (r : Request) → slice_get m.vcpus k ≡ Some v → request_of m.shape v ≡ r →
     event_cell m k ≡ cell_of r
-unfolding event_cell
+unfolding event_cell cell_of
 event_cell-is m k v r stood asks = ap (cell_of_next m.shape) stood ∙ ap cell_of asks
 
 -- ---- What an event leaves
@@ -155,6 +156,7 @@ cell_event_same m other k v r c is is_other agrees stood asks touches =
 -- so do they where the event touches no cell
 alone_same : (m other : MachineData) (k : ℕ) (v : VcpuData) (cause : Cause) → AgreesAt m other k → slice_get m.vcpus k ≡ Some v →
     request_of m.shape v ≡ NoFetch cause → MakesTheSame m k (after_event m k (fetched_vcpu m.shape v None)) other
+unfolding cell_of
 alone_same m other k v cause agrees stood asks =
     let there = agrees.vcpu ∙ stood in
     let asks_there = ap (λ s. request_of s v) agrees.shape ∙ asks in

@@ -60,6 +60,7 @@ length-page_of m p size h =
 -- so it is a content of its cell
 content_stays : (m : MachineData) (r : Request) (c : CellName) → length m.ram ≡ ram_bytes_of m.shape → CanServe m.shape r → IsCellOf m.shape c →
     IsContentOf m.shape c (content_after r (content m c))
+unfolding content_after
 content_stays m r (PageCell p) size is there = (there, page_stays m.shape r (page_of m p) is (length-page_of m p size there))
 content_stays m r SerialCell size is there = tt
 content_stays m r TimerCell size is there = tt

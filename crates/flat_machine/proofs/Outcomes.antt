@@ -91,6 +91,7 @@ cell_event_vcpus m k v r c is outcome written = Happens (after_cell_event m k v 
 -- a fetch
 fetch_event : (m : MachineData) (k : ℕ) (v : VcpuData) (at : Result Place Cause) → v.pending ≡ None → request_of m.shape v ≡ fetch_at at →
     RequestOutcome v m k (event_with m k v (fetch_at at))
+unfolding vcpu_after content_after
 fetch_event m k v (Ok (places.Ram page off)) none asks =
     let r = requests.Fetch page off in
     let c = PageCell page in
@@ -116,6 +117,7 @@ access_with m k v r c access same pending kind =
 -- the access of a pending instruction
 access_event : (m : MachineData) (k : ℕ) (v : VcpuData) (place : Place) (instr : Instr) → v.pending ≡ Some (record { instr = instr; place = place }) →
     AccessesMemory instr → RequestOutcome v m k (event_with m k v (access_of v place instr))
+unfolding vcpu_after
 access_event m k v place (instrs.Load op rd rs1 off) pending kind = access_with m k v _ (cell_at place) _ (λ value. refl) pending kind
 access_event m k v place (instrs.Store op rs1 rs2 off) pending kind = access_with m k v _ (cell_at place) _ (λ value. refl) pending kind
 access_event m k v place (instrs.Amo op wide rd rs1 rs2 order) pending kind = access_with m k v _ (cell_at place) _ (λ value. refl) pending kind

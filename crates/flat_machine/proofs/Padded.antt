@@ -5,8 +5,6 @@ use Rattle.std.proofs.lemmas.List.{length-drop, length-take-le, length-replicate
 use Rattle.std.proofs.lemmas.List.FromFn.{map-range_with_len_more, length-map-range_with_len, get_or-map-range_with_len}
 use Rattle.std.specs.List.{range_with_len}
 use lib.Seq.{take-append-add, drop-append-add, take-add}
-use Rattle.ram_block.proofs.Pages.{drop-zero_page}
-use Rattle.ram_block.specs.Page.{zero_page}
 use Rattle.ram_block.specs.Shape.{ShapeData}
 use Rattle.ram_block.specs.declared.page_buf.TheConstants.{PAGE}
 use Rattle.rv64i_step.specs.Event.{IsServable}
@@ -85,10 +83,6 @@ joined_padded pages bytes page total p fits within so_far is =
 pub take_padded : (bytes : List ℕ) (total : ℕ) → length bytes ≤ total → take total (padded bytes total) ≡ padded bytes total
 take_padded bytes total fits =
     take_all total (padded bytes total) (omega (arith, length-append bytes (replicate (total - length bytes) 0), length-replicate {A = ℕ} (total - length bytes) 0))
-
--- behind the first bytes of a page of zeros stand zeros
-pub zeros_behind : (n : ℕ) → drop n zero_page ≡ replicate (PAGE - n) 0
-zeros_behind n = drop-zero_page n
 
 -- the part of a list between two places that are cut at its end
 pub part_between : (xs : List ℕ) (a n start end : ℕ) → start ≡ min (length xs) a → end ≡ min (length xs) (a + n) →

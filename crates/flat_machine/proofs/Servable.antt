@@ -31,6 +31,7 @@ accessed_servable shape v value is =
 -- what an event that touches a cell makes of its vCPU
 after_servable : (shape : ShapeData) (v : VcpuData) (r : Request) (value : ℕ) → request_of shape v ≡ r → IsServable shape v →
     IsServable shape (vcpu_after shape v r value)
+unfolding vcpu_after
 after_servable shape v (Fetch page off) value asks is =
     fetched_servable shape v value (fetch_pending shape v (subst IsFetch (sym asks) tt))
 after_servable shape v _ value asks is = accessed_servable shape v value is

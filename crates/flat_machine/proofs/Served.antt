@@ -2,15 +2,10 @@
 use Rattle.std.proofs.Common.{◌≡◌, ℕ, ◌+◌, ◌<◌, ◌≤◌, Some, arith, subst}
 use Rattle.std.proofs.lemmas.Option.{none-some, same_Some}
 use Rattle.ram_block.specs.AddressMap.{width_bytes, IsAccess, IsRamAccess}
-use Rattle.ram_block.specs.Devices.{IsRegisterAccess}
 use Rattle.ram_block.specs.Shape.{ShapeData, total_pages_of}
 use Rattle.ram_block.specs.declared.page_buf.TheConstants.{PAGE}
 use Rattle.ram_block.specs.declared.place.Place.{Place}
 use Rattle.ram_block.specs.declared.place.Place.TheVariants.{Ram, Serial, Timer}
-use Rattle.ram_block.specs.declared.place.SerialReg.{SerialReg}
-use Rattle.ram_block.specs.declared.place.SerialReg.TheVariants.{Tx, Rx, Status}
-use Rattle.ram_block.specs.declared.place.TimerReg.{TimerReg}
-use Rattle.ram_block.specs.declared.place.TimerReg.TheVariants.{Time, Cmp, Due}
 use Rattle.ram_block.specs.declared.place.Way.{Way}
 use Rattle.ram_block.specs.declared.place.Way.TheVariants as ways
 use Rattle.ram_block.specs.declared.place.Width.{Width}
@@ -34,36 +29,6 @@ some_bytes Eight = omega arith
 -- a place in a page of the machine is one in a page
 in_page : (shape : ShapeData) (width : Width) (page off : ℕ) → IsRamAccess shape width page off → IsInPage width off
 in_page shape width page off access = (let some = some_bytes width in omega (arith, access.in_page, some), access.aligned)
-
--- the serial device has no AMO
-no_serial_amo : (reg : SerialReg) (width : Width) → IsRegisterAccess (Serial reg) width ways.Amo → ⊥
-no_serial_amo Tx One h = h
-no_serial_amo Tx Two h = h
-no_serial_amo Tx Four h = h
-no_serial_amo Tx Eight h = h
-no_serial_amo Rx One h = h
-no_serial_amo Rx Two h = h
-no_serial_amo Rx Four h = h
-no_serial_amo Rx Eight h = h
-no_serial_amo Status One h = h
-no_serial_amo Status Two h = h
-no_serial_amo Status Four h = h
-no_serial_amo Status Eight h = h
-
--- nor has the timer
-no_timer_amo : (reg : TimerReg) (width : Width) → IsRegisterAccess (Timer reg) width ways.Amo → ⊥
-no_timer_amo Time One h = h
-no_timer_amo Time Two h = h
-no_timer_amo Time Four h = h
-no_timer_amo Time Eight h = h
-no_timer_amo Cmp One h = h
-no_timer_amo Cmp Two h = h
-no_timer_amo Cmp Four h = h
-no_timer_amo Cmp Eight h = h
-no_timer_amo Due One h = h
-no_timer_amo Due Two h = h
-no_timer_amo Due Four h = h
-no_timer_amo Due Eight h = h
 
 -- the cell of this name can serve the request
 abbrev pub FitsCell : CellName → Request → Type 0
@@ -89,11 +54,12 @@ store_fits shape (Timer reg) width value can = can
 amo_fits : (shape : ShapeData) (place : Place) (width : Width) (op : AmoOp) (value : ℕ) → CanServe shape (requests.Amo place width op value) →
     FitsCell (cell_at place) (requests.Amo place width op value)
 amo_fits shape (Ram page off) width op value can = (in_page shape width page off can.0, can.1)
-amo_fits shape (Serial reg) width op value can = absurd (no_serial_amo reg width can.0)
-amo_fits shape (Timer reg) width op value can = absurd (no_timer_amo reg width can.0)
+amo_fits shape (Serial reg) width op value can = absurd can.0
+amo_fits shape (Timer reg) width op value can = absurd can.0
 
 -- each request that a machine can serve, its cell can
 pub fits : (shape : ShapeData) (r : Request) (c : CellName) → CanServe shape r → cell_of r ≡ Some c → FitsCell c r
+unfolding cell_of
 fits shape requests.Nothing c can is = absurd (none-some c is)
 fits shape (requests.NoFetch cause) c can is = absurd (none-some c is)
 fits shape (requests.Fetch page off) c can is =
@@ -113,6 +79,7 @@ place_there shape width way (Timer reg) access = tt
 
 -- and it is there
 pub cell_there : (shape : ShapeData) (r : Request) (c : CellName) → CanServe shape r → cell_of r ≡ Some c → IsCellOf shape c
+unfolding cell_of
 cell_there shape requests.Nothing c can is = absurd (none-some c is)
 cell_there shape (requests.NoFetch cause) c can is = absurd (none-some c is)
 cell_there shape (requests.Fetch page off) c can is = subst (IsCellOf shape) (same_Some (PageCell page) c is) can.in_machine

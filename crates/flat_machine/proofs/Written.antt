@@ -32,7 +32,7 @@ place_page (places.Timer reg) p is = absurd (cc)
 
 -- a request of a page writes it or leaves it
 page_kept : (r : Request) (p : ℕ) (bytes : List ℕ) → cell_of r ≡ Some (PageCell p) → written_page r ≢ Some p → page_after r bytes ≡ bytes
-unfolding page_after
+unfolding page_after cell_of
 page_kept Nothing p bytes is other = refl
 page_kept (NoFetch cause) p bytes is other = refl
 page_kept (Fetch page off) p bytes is other = refl
@@ -47,6 +47,7 @@ same_page m after p same = cc
 -- the law of the page that an event writes
 pub other_pages_stay : (m : MachineData) (k : ℕ) (after : MachineData) (p : ℕ) → ServesAll m → next m k ≡ Some after → p < total_pages_of m.shape →
     event_written_page m k ≢ Some p → page_of after p ≡ page_of m p
+unfolding content_after cell_of
 other_pages_stay m k after p serves moved within other =
     let keeps = next_keeps m k after serves moved in
     elim (event_case m k after moved) as (λ _. page_of after p ≡ page_of m p) [

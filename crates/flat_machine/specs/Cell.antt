@@ -71,12 +71,12 @@ timer_after (Store (places.Timer Cmp) width value) cmp = value
 timer_after _ cmp = cmp
 
 -- the same of any cell
-abbrev pub gives : Request → Content → ℕ → ℕ
+unfoldable pub gives : Request → Content → ℕ → ℕ
 gives request (Page bytes) time = page_gives request bytes
 gives request (Serial s) time = serial_gives request s
 gives request (Timer cmp) time = timer_gives request cmp time
 
-abbrev pub content_after : Request → Content → Content
+unfoldable pub content_after : Request → Content → Content
 content_after request (Page bytes) = Page (page_after request bytes)
 content_after request (Serial s) = Serial (serial_after request s)
 content_after request (Timer cmp) = Timer (timer_after request cmp)

@@ -9,7 +9,7 @@ use Rattle.flat_machine.specs.Cell.{CellName, PageCell, cell_at, content, conten
 use Rattle.flat_machine.specs.Machine.{MachineData}
 
 -- the cell that an event with this request touches, where it touches one
-abbrev pub cell_of : Request → Option CellName
+unfoldable pub cell_of : Request → Option CellName
 cell_of Nothing = None
 cell_of (NoFetch cause) = None
 cell_of (Fetch page off) = Some (PageCell page)
@@ -18,7 +18,7 @@ cell_of (Store place width value) = Some (cell_at place)
 cell_of (Amo place width op value) = Some (cell_at place)
 
 -- the vCPU after an event with this request, of the value that the cell gave
-abbrev pub vcpu_after : ShapeData → VcpuData → Request → ℕ → VcpuData
+unfoldable pub vcpu_after : ShapeData → VcpuData → Request → ℕ → VcpuData
 vcpu_after shape v (Fetch page off) word = fetched_vcpu shape v (Some word)
 vcpu_after shape v _ value = accessed_vcpu v value
 

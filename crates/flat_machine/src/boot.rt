@@ -45,7 +45,7 @@ fn boot_ram(alloc: Global, image: &[u8], pages: u32) -> Result<Vec<PageBuf>, NoM
 {
     let mut ram = Vec::with_capacity(alloc, pages as usize)?;
     for p in 0..pages {
-        ram.push(boot_page(alloc, part_of(image, p))?)?;
+        ram.push(PageBuf::of_bytes(alloc, part_of(image, p))?)?;
     }
     Ok(ram)
 }
@@ -59,26 +59,6 @@ fn part_of(image: &[u8], p: u32) -> &[u8]
     let start = image.len().min(PAGE * p as usize);
     let end = image.len().min(PAGE * p as usize + PAGE);
     &image[start..end]
-}
-
-// A page that begins with these bytes, and has zeros behind them.
-#[tactic(auto, using(crate::proofs::Padded::zeros_behind))]
-fn boot_page(alloc: Global, part: &[u8]) -> Result<PageBuf, NoMemory>
-    requires { length part.now ≤ PAGE }
-    ensures bytes { IfOk result (λ page. page ≡ part.now ++ replicate (PAGE - length part.now) 0) }
-    ensures whole { IfOk result (λ page. length page ≡ PAGE) }
-{
-    let mut page = PageBuf::new(alloc)?;
-    fill_front(page.bytes_mut(), part);
-    Ok(page)
-}
-
-// Writes the bytes to the front.
-fn fill_front(page: &mut [u8], bytes: &[u8])
-    requires { length bytes.now ≤ length page.old }
-    ensures { page.new ≡ bytes.now ++ drop (length bytes.now) page.old }
-{
-    page[..bytes.len()].copy_from_slice(bytes);
 }
 
 // As many vCPUs as the shape has.

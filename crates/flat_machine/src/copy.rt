@@ -29,9 +29,7 @@ fn copied_pages(alloc: Global, ram: &[PageBuf]) -> Result<Vec<PageBuf>, NoMemory
 {
     let mut copy = Vec::with_capacity(alloc, ram.len())?;
     for page in ram {
-        let mut again = PageBuf::new(alloc)?;
-        again.copy_from(page);
-        copy.push(again)?;
+        copy.push(page.copy(alloc)?)?;
     }
     Ok(copy)
 }

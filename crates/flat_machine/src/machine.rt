@@ -6,7 +6,7 @@ ghost use Rattle.rv64i_step.specs.Vcpu.{IsVcpu};
 ghost use Rattle.serial_timer.specs.Serial.{IsSerial};
 ghost use Rattle.flat_machine.specs.Page.{joined};
 
-use ram_block::{PAGE, PageBuf, Shape};
+use ram_block::{MOST_AT_REST, PAGE, PageBuf, Shape};
 use rv64i_step::Vcpu;
 use serial_timer::{Serial, Timer};
 use std::marker::Model;
@@ -164,6 +164,15 @@ impl Machine {
         &self.timer
     }
 
+    /// The pages of RAM, in their order over all blocks.
+    pub fn pages(&self) -> &[PageBuf]
+        ensures pages { joined result.now ≡ self.now.ram }
+        ensures count { length result.now ≡ total_pages_of self.now.shape }
+        ensures limits { IsMachine self.now }
+    {
+        &self.ram
+    }
+
     /// The byte of RAM with a number, from 0.
     #[tactic(auto, using(crate::proofs::Pages::ram_len, crate::proofs::Pages::byte_at))]
     pub fn byte(&self, i: u64) -> u8
@@ -184,9 +193,6 @@ impl Machine {
         self.clock <= MOST_AT_REST && self.vcpus.iter().all(is_at_rest)
     }
 }
-
-/// The most events, and the most finished instructions of a vCPU, of a machine at rest.
-pub(crate) const MOST_AT_REST: u64 = 1 << 62;
 
 fn is_at_rest(vcpu: &Vcpu) -> bool
     ensures { IsTrue result ↔ ((vcpu.now.pending ≡ None) × (vcpu.now.steps ≤ 2 ^ 62)) }

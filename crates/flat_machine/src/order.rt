@@ -44,6 +44,7 @@ impl Order {
     }
 
     /// Puts an event of vCPU k last.
+    #[inline(always)]
     pub fn push(&mut self, k: u8)
         requires vcpu { k < 8 }
         requires room { length self.old.members < self.old.room }
@@ -53,6 +54,7 @@ impl Order {
     }
 
     /// How many events there are.
+    #[inline(always)]
     pub fn count(&self) -> usize
         ensures { result ≡ length self.now.members }
     {

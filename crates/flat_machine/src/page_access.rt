@@ -13,6 +13,7 @@ use rv64i_step::{Request, amo_result, low_bytes_of};
 /// A page's part of an event: answers the word fetched, the value loaded, or the value that an AMO found, and 0 to
 /// a store.
 #[tactic(auto, unfolding(crate::specs::Cell::page_gives, crate::specs::Cell::page_after))]
+#[inline(always)]
 pub fn apply_to_page(page: &mut PageBuf, request: &Request) -> u64
     requires { FitsPage request.now }
     ensures gives { result ≡ page_gives request.now page.old }
@@ -51,6 +52,7 @@ pub fn apply_to_page(page: &mut PageBuf, request: &Request) -> u64
 
 // The number that stands at a place.
 #[tactic(auto, unfolding(crate::specs::Page::number_at))]
+#[inline(always)]
 fn number_in(bytes: &[u8], off: usize, width: Width) -> u64
     requires { off + width_bytes width ≤ length bytes.now }
     ensures number { result ≡ number_at width bytes.now off }
@@ -64,6 +66,7 @@ fn number_in(bytes: &[u8], off: usize, width: Width) -> u64
     }
 }
 
+#[inline(always)]
 fn half_in(bytes: &[u8]) -> u16
     requires { length bytes.now ≡ 2 }
     ensures { result ≡ from_le_bytes w16 bytes.now }
@@ -73,6 +76,7 @@ fn half_in(bytes: &[u8]) -> u16
     u16::from_le_bytes(field)
 }
 
+#[inline(always)]
 fn word_in(bytes: &[u8]) -> u32
     requires { length bytes.now ≡ 4 }
     ensures { result ≡ from_le_bytes w32 bytes.now }
@@ -82,6 +86,7 @@ fn word_in(bytes: &[u8]) -> u32
     u32::from_le_bytes(field)
 }
 
+#[inline(always)]
 fn double_in(bytes: &[u8]) -> u64
     requires { length bytes.now ≡ 8 }
     ensures { result ≡ from_le_bytes w64 bytes.now }
@@ -93,14 +98,16 @@ fn double_in(bytes: &[u8]) -> u64
 
 // Writes the low bytes of a number at a place.
 #[tactic(auto, unfolding(crate::specs::Page::with_number))]
+#[inline(always)]
 fn put_number(bytes: &mut [u8], off: usize, width: Width, value: u64)
     requires { off + width_bytes width ≤ length bytes.old }
     ensures { bytes.new ≡ with_number width bytes.old off (low_bytes width value) }
 {
+    let low = low_bytes_of(width, value);
     match width {
-        Width::One => bytes[off] = (value % (1 << 8)) as u8,
-        Width::Two => bytes[off..off + 2].copy_from_slice(&((value % (1 << 16)) as u16).to_le_bytes()),
-        Width::Four => bytes[off..off + 4].copy_from_slice(&((value % (1 << 32)) as u32).to_le_bytes()),
-        Width::Eight => bytes[off..off + 8].copy_from_slice(&value.to_le_bytes()),
+        Width::One => bytes[off] = low as u8,
+        Width::Two => bytes[off..off + 2].copy_from_slice(&(low as u16).to_le_bytes()),
+        Width::Four => bytes[off..off + 4].copy_from_slice(&(low as u32).to_le_bytes()),
+        Width::Eight => bytes[off..off + 8].copy_from_slice(&low.to_le_bytes()),
     }
 }

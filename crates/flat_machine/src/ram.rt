@@ -10,6 +10,7 @@ use rv64i_step::Request;
 
 /// The part of an event that a page of RAM has.
 #[tactic(auto, using(crate::proofs::Pages::page_steps))]
+#[inline(always)]
 pub(crate) fn apply_to_ram(ram: &mut Vec<PageBuf>, page: u32, request: &Request) -> u64
     requires fits { FitsPage request.now }
     requires page { page < vec_len ram.old }

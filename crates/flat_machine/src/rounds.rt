@@ -3,7 +3,7 @@ ghost use Rattle.flat_machine.specs.Machine.{IsMachine, Rest};
 ghost use Rattle.flat_machine.specs.Run.{Phase, ended_at, ends_of, round, rounds, rounds_on, rounds_run, run, steps_of, turn, vcpu_ended};
 
 use crate::{Machine, Order, Stepped};
-use ram_block::NoMemory;
+use ram_block::{MAX_PHASE, NoMemory};
 use rv64i_step::{State, Vcpu};
 use std::alloc::{AllocError, Global};
 
@@ -14,7 +14,7 @@ impl Machine {
     #[tactic(auto, unfolding(crate::specs::Run::rounds_run, crate::specs::Run::ends_of))]
     pub fn rounds(&mut self, alloc: Global, n: u32) -> Result<Order, NoMemory>
         requires rest { Rest self.old }
-        requires most { n ≤ 1_000_000 }
+        requires most { n ≤ MAX_PHASE }
         ensures order { IfOk result (λ o. o.members ≡ rounds self.old n) }
         ensures run { IfOk result (λ o. run self.old o.members ≡ Some self.new) }
         ensures phase { IfOk result (λ o. Phase self.old n o.members) }
@@ -68,6 +68,7 @@ impl Machine {
 
     // The turn of vCPU k, whose phase ends at this count of steps: one event, unless the phase has ended.
     #[tactic(auto, unfolding(crate::specs::Run::turn))]
+    #[inline(always)]
     fn turn(&mut self, k: u32, until: u64, order: &mut Order)
         requires vcpu { k < self.old.shape.vcpus }
         requires clock { self.old.clock < 2 ^ 63 }
@@ -91,6 +92,7 @@ impl Machine {
     }
 
     // Whether the phase of vCPU k that ends at this count of steps has ended.
+    #[inline(always)]
     fn has_ended(&self, k: u32, until: u64) -> bool
         requires { k < self.now.shape.vcpus }
         ensures ended { result ≡ ended_at until self.now k }
@@ -101,6 +103,7 @@ impl Machine {
 }
 
 /// Whether a vCPU's phase that ends at this count of steps has ended.
+#[inline(always)]
 pub fn phase_has_ended(vcpu: &Vcpu, until: u64) -> bool
     ensures { result ≡ vcpu_ended until vcpu.now }
 {

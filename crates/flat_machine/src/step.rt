@@ -25,7 +25,8 @@ impl Machine {
     ghost use Rattle.flat_machine.specs.Step.{StepsTo};
 
     /// One event of vCPU k.
-    #[tactic(auto, using(crate::proofs::Served::serving, crate::proofs::Pages::ram_len), unfolding(crate::specs::Next::next))]
+    #[tactic(auto, using(crate::proofs::Served::serving, crate::proofs::Pages::ram_len), unfolding(crate::specs::Next::next, crate::specs::Next::cell_of, crate::specs::Next::vcpu_after, crate::specs::Cell::gives, crate::specs::Cell::content_after))]
+    #[inline(always)]
     pub fn step(&mut self, k: u32) -> Stepped
         requires vcpu { k < self.old.shape.vcpus }
         requires clock { self.old.clock < 2 ^ 63 }
@@ -57,7 +58,8 @@ impl Machine {
     }
 
     // The part of an event that the cell of a place has.
-    #[tactic(auto, using(crate::proofs::Served::serving, crate::proofs::Pages::ram_len))]
+    #[tactic(auto, using(crate::proofs::Served::serving, crate::proofs::Pages::ram_len), unfolding(crate::specs::Cell::gives, crate::specs::Cell::content_after, crate::specs::Next::cell_of))]
+    #[inline(always)]
     fn serve(&mut self, place: Place, request: &Request) -> u64
         requires can { CanServe self.old.shape request.now }
         requires place { cell_of request.now ≡ Some (cell_at place) }

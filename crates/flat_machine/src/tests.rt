@@ -91,6 +91,14 @@ static HALTS: [(u32, &str, u32, Cause, u64); 9] = [
     (0x00100073, "ebreak", 1, Cause::Ebreak, 0x8000_0000),
 ];
 
+// The clock, the steps of the vCPU, and whether the machine rests.
+static RESTS: [(u64, u64, bool); 4] = [
+    (4_611_686_018_427_387_904, 0, true),
+    (4_611_686_018_427_387_905, 0, false),
+    (0, 4_611_686_018_427_387_904, true),
+    (0, 4_611_686_018_427_387_905, false),
+];
+
 fn image_of(alloc: Global, words: &[u32]) -> Result<Vec<u8>, AllocError> {
     let mut bytes = Vec::new(alloc);
     for word in words {
@@ -108,20 +116,20 @@ fn booted(alloc: Global, numbers: &[u64; 3], words: &[u32], input: &[u8]) -> Res
     Ok(Machine::boot(alloc, shape, &image, input)?)
 }
 
-// The same machine, with one vCPU that starts from another pc.
-fn started_at(alloc: Global, m: Machine, pc: u64) -> Result<Machine, Fail> {
+// The same machine, with one vCPU of this pc and these steps, and another clock.
+fn moved_to(alloc: Global, m: Machine, pc: u64, steps: u64, clock: u64) -> Result<Machine, Fail> {
     let parts = m.into_parts();
-    if parts.shape.vcpus() != 1 {
+    if parts.shape.vcpus() != 1 || clock > 1 << 63 {
         Err(OutOfLimits)?;
     }
-    let vcpus = vec![in alloc; Vcpu::of([0; 31], pc, 0, State::Running)]?;
+    let vcpus = vec![in alloc; Vcpu::of([0; 31], pc, steps, State::Running)]?;
     Ok(Machine::of(
         parts.shape,
         parts.ram,
         vcpus,
         parts.serial,
         parts.timer,
-        parts.clock,
+        clock,
     ))
 }
 
@@ -198,7 +206,7 @@ fn each_cause_of_a_booted_guest_halts_it(rt: HostRuntime) -> Result<(), Fail> {
 fn a_vcpu_that_starts_inside_a_word_halts(rt: HostRuntime) -> Result<(), Fail> {
     let alloc = rt.alloc();
     let m = booted(alloc, &[1, 1, 1], &EBREAK, &[])?;
-    let mut m = started_at(alloc, m, 0x8000_0002)?;
+    let mut m = moved_to(alloc, m, 0x8000_0002, 0, 0)?;
     phase(alloc, &mut m, 1)?;
     assert_eq!(rt; m.clock(), 1);
     let wanted = (State::Halted(Cause::FetchMisaligned), 0x8000_0002, 0);
@@ -267,6 +275,7 @@ fn a_copy_and_a_machine_of_the_parts_are_the_same(rt: HostRuntime) -> Result<(),
         assert_eq!(rt; registers(machine), Some([0x8000_1008, 0x200_0000, 2, 7]));
         assert_eq!(rt; byte(machine, 0x1008), Some(2));
         assert_eq!(rt; byte(machine, 0x1009), Some(0));
+        assert_eq!(rt; machine.pages().len(), 2);
     }
     Ok(())
 }
@@ -278,6 +287,17 @@ fn a_machine_with_an_access_to_make_is_not_at_rest(rt: HostRuntime) -> Result<()
     for rest in [true, false, true] {
         assert_eq!(rt; stepped(&mut m, 0), Some(Stepped::Event));
         assert_eq!(rt; m.at_rest(), rest, "at {}", m.clock());
+    }
+    Ok(())
+}
+
+#[test]
+fn a_machine_rests_up_to_a_clock_and_steps_of_2_to_62(rt: HostRuntime) -> Result<(), Fail> {
+    let alloc = rt.alloc();
+    for (clock, steps, rests) in &RESTS {
+        let m = booted(alloc, &[1, 1, 1], &EBREAK, &[])?;
+        let m = moved_to(alloc, m, 0x8000_0000, *steps, *clock)?;
+        assert_eq!(rt; m.at_rest(), *rests, "at {clock} and {steps}");
     }
     Ok(())
 }

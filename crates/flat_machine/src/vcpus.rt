@@ -7,6 +7,7 @@ use ram_block::Shape;
 use rv64i_step::{Request, Vcpu};
 
 /// The request of a vCPU in a list.
+#[inline(always)]
 pub(crate) fn request_of(vcpus: &[Vcpu], k: usize, shape: &Shape) -> Request
     requires vcpu { k < length vcpus.now }
     requires servable { All (IsServable shape.now) vcpus.now }
@@ -18,6 +19,7 @@ pub(crate) fn request_of(vcpus: &[Vcpu], k: usize, shape: &Shape) -> Request
 }
 
 /// The part of the fetch event of a vCPU in a list.
+#[inline(always)]
 pub(crate) fn fetch_into(vcpus: &mut Vec<Vcpu>, k: usize, shape: &Shape, word: Option<u32>)
     requires vcpu { k < vec_len vcpus.old }
     requires ready { (v : VcpuData) → slice_get vcpus.old.items k ≡ Some v → IsReady v }
@@ -33,6 +35,7 @@ pub(crate) fn fetch_into(vcpus: &mut Vec<Vcpu>, k: usize, shape: &Shape, word: O
 }
 
 /// The part of the access event of a vCPU in a list.
+#[inline(always)]
 pub(crate) fn access_into(vcpus: &mut Vec<Vcpu>, k: usize, shape: &Shape, value: u64)
     requires vcpu { k < vec_len vcpus.old }
     requires pending { (v : VcpuData) → slice_get vcpus.old.items k ≡ Some v → IsSome v.pending }

@@ -12,6 +12,7 @@ use crate::{AmoOp, BranchOp, ImmOp, Instr, LoadOp, RegOp, RegWOp, ShiftOp, Store
 
 /// The instruction that a word is.
 #[tactic(auto, unfolding(crate::specs::Decode::instr_of))]
+#[inline(always)]
 pub fn decode(word: u32) -> Option<Instr>
     ensures table { (instr : Instr) → (result ≡ Some instr) ↔ Row word instr }
     ensures at_most_one { (a b : Instr) → Row word a → Row word b → a ≡ b }
@@ -22,6 +23,7 @@ pub fn decode(word: u32) -> Option<Instr>
 }
 
 #[tactic(auto, unfolding(crate::specs::Decode::instr_in))]
+#[inline(always)]
 fn decode_fields(f: Fields) -> Option<Instr>
     requires { IsInRange f }
     ensures row { IsDecoded f result }
@@ -55,6 +57,7 @@ fn decode_fields(f: Fields) -> Option<Instr>
     }
 }
 
+#[inline(always)]
 fn jump_to_register(f: Fields) -> Option<Instr>
     requires opcode { f.opcode ≡ JALR }
     requires in_range { IsInRange f }
@@ -71,6 +74,7 @@ fn jump_to_register(f: Fields) -> Option<Instr>
     })
 }
 
+#[inline(always)]
 fn branch(f: Fields) -> Option<Instr>
     requires opcode { f.opcode ≡ BRANCH }
     requires in_range { IsInRange f }
@@ -86,6 +90,7 @@ fn branch(f: Fields) -> Option<Instr>
     })
 }
 
+#[inline(always)]
 fn load(f: Fields) -> Option<Instr>
     requires opcode { f.opcode ≡ LOAD }
     requires in_range { IsInRange f }
@@ -101,6 +106,7 @@ fn load(f: Fields) -> Option<Instr>
     })
 }
 
+#[inline(always)]
 fn store(f: Fields) -> Option<Instr>
     requires opcode { f.opcode ≡ STORE }
     requires in_range { IsInRange f }
@@ -116,6 +122,7 @@ fn store(f: Fields) -> Option<Instr>
     })
 }
 
+#[inline(always)]
 fn with_immediate(f: Fields) -> Option<Instr>
     requires opcode { f.opcode ≡ OP_IMM }
     requires in_range { IsInRange f }
@@ -140,6 +147,7 @@ fn with_immediate(f: Fields) -> Option<Instr>
     })
 }
 
+#[inline(always)]
 fn with_registers(f: Fields) -> Option<Instr>
     requires opcode { f.opcode ≡ OP }
     requires in_range { IsInRange f }
@@ -155,6 +163,7 @@ fn with_registers(f: Fields) -> Option<Instr>
     })
 }
 
+#[inline(always)]
 fn word_with_immediate(f: Fields) -> Option<Instr>
     requires opcode { f.opcode ≡ OP_IMM_32 }
     requires in_range { IsInRange f }
@@ -177,6 +186,7 @@ fn word_with_immediate(f: Fields) -> Option<Instr>
     })
 }
 
+#[inline(always)]
 fn word_with_registers(f: Fields) -> Option<Instr>
     requires opcode { f.opcode ≡ OP_32 }
     requires in_range { IsInRange f }

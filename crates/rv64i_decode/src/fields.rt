@@ -31,6 +31,7 @@ impl Fields {
     ghost use Rattle.rv64i_decode.specs.Word.{IsInRange, IsWord};
 
     /// The fields of a word.
+    #[inline(always)]
     pub(crate) fn of_word(word: u32) -> Fields
         ensures sum { IsWord word result }
         ensures fields { result ≡ fields_of word }
@@ -59,6 +60,7 @@ impl Fields {
     }
 
     /// The immediate of the I format.
+    #[inline(always)]
     pub(crate) fn imm_i(self) -> i64
         requires { IsInRange self }
         ensures row { IsImmediateI self result }
@@ -69,6 +71,7 @@ impl Fields {
     }
 
     /// The immediate of the S format.
+    #[inline(always)]
     pub(crate) fn imm_s(self) -> i64
         requires { IsInRange self }
         ensures row { IsImmediateS self result }
@@ -79,6 +82,7 @@ impl Fields {
     }
 
     /// The immediate of the B format.
+    #[inline(always)]
     pub(crate) fn imm_b(self) -> i64
         requires { IsInRange self }
         ensures row { IsImmediateB self result }
@@ -93,6 +97,7 @@ impl Fields {
     }
 
     /// The immediate of the U format.
+    #[inline(always)]
     pub(crate) fn imm_u(self) -> i64
         requires { IsInRange self }
         ensures row { IsImmediateU self result }
@@ -106,6 +111,7 @@ impl Fields {
     }
 
     /// The immediate of the J format.
+    #[inline(always)]
     pub(crate) fn imm_j(self) -> i64
         requires { IsInRange self }
         ensures row { IsImmediateJ self result }

@@ -16,6 +16,7 @@ impl BranchOp {
     ghost use Rattle.rv64i_decode.specs.Op.{branch_funct3};
 
     #[tactic(auto, unfolding(crate::specs::Decode::branch_op))]
+    #[inline(always)]
     pub(crate) fn of_funct3(funct3: u8) -> Option<BranchOp>
         ensures op { (op : BranchOp) → (result ≡ Some op) ↔ (funct3 ≡ branch_funct3 op) }
         ensures value { result ≡ branch_op funct3 }
@@ -62,6 +63,7 @@ impl LoadOp {
     ghost use Rattle.rv64i_decode.specs.Op.{load_funct3};
 
     #[tactic(auto, unfolding(crate::specs::Decode::load_op))]
+    #[inline(always)]
     pub(crate) fn of_funct3(funct3: u8) -> Option<LoadOp>
         ensures op { (op : LoadOp) → (result ≡ Some op) ↔ (funct3 ≡ load_funct3 op) }
         ensures value { result ≡ load_op funct3 }
@@ -107,6 +109,7 @@ impl StoreOp {
     ghost use Rattle.rv64i_decode.specs.Op.{store_funct3};
 
     #[tactic(auto, unfolding(crate::specs::Decode::store_op))]
+    #[inline(always)]
     pub(crate) fn of_funct3(funct3: u8) -> Option<StoreOp>
         ensures op { (op : StoreOp) → (result ≡ Some op) ↔ (funct3 ≡ store_funct3 op) }
         ensures value { result ≡ store_op funct3 }
@@ -148,6 +151,7 @@ impl ImmOp {
     ghost use Rattle.rv64i_decode.specs.Op.{imm_funct3};
 
     #[tactic(auto, unfolding(crate::specs::Decode::imm_op))]
+    #[inline(always)]
     pub(crate) fn of_funct3(funct3: u8) -> Option<ImmOp>
         ensures op { (op : ImmOp) → (result ≡ Some op) ↔ (funct3 ≡ imm_funct3 op) }
         ensures value { result ≡ imm_op funct3 }
@@ -190,6 +194,7 @@ impl ShiftOp {
     ghost use Rattle.rv64i_decode.specs.Op.{shift_funct3, shift_funct6, shift_funct7};
 
     #[tactic(auto, unfolding(crate::specs::Decode::shift_op))]
+    #[inline(always)]
     pub(crate) fn of_funct6(funct3: u8, funct6: u8) -> Option<ShiftOp>
         ensures op { (op : ShiftOp) →
             (result ≡ Some op) ↔ ((funct3 ≡ shift_funct3 op) × (funct6 ≡ shift_funct6 op)) }
@@ -204,6 +209,7 @@ impl ShiftOp {
     }
 
     #[tactic(auto, unfolding(crate::specs::Decode::shift_w_op))]
+    #[inline(always)]
     pub(crate) fn of_funct7(funct3: u8, funct7: u8) -> Option<ShiftOp>
         ensures op { (op : ShiftOp) →
             (result ≡ Some op) ↔ ((funct3 ≡ shift_funct3 op) × (funct7 ≡ shift_funct7 op)) }
@@ -265,6 +271,7 @@ impl RegOp {
     ghost use Rattle.rv64i_decode.specs.Op.{reg_funct3, reg_funct7};
 
     #[tactic(auto, unfolding(crate::specs::Decode::reg_op))]
+    #[inline(always)]
     pub(crate) fn of_functs(funct3: u8, funct7: u8) -> Option<RegOp>
         ensures op { (op : RegOp) →
             (result ≡ Some op) ↔ ((funct3 ≡ reg_funct3 op) × (funct7 ≡ reg_funct7 op)) }
@@ -325,6 +332,7 @@ impl RegWOp {
     ghost use Rattle.rv64i_decode.specs.Op.{reg_w_funct3, reg_w_funct7};
 
     #[tactic(auto, unfolding(crate::specs::Decode::reg_w_op))]
+    #[inline(always)]
     pub(crate) fn of_functs(funct3: u8, funct7: u8) -> Option<RegWOp>
         ensures op { (op : RegWOp) →
             (result ≡ Some op) ↔ ((funct3 ≡ reg_w_funct3 op) × (funct7 ≡ reg_w_funct7 op)) }

@@ -3,6 +3,7 @@ ghost use Rattle.rv64i_decode.specs.Decode.{twos_complement};
 ghost use Rattle.rv64i_decode.specs.Immediate.{IsTwosComplement};
 
 /// The number whose two's complement is `bits`, where the sign bit counts `half`.
+#[inline(always)]
 pub(crate) fn sign_extend(bits: u32, half: u32) -> i64
     requires sign { half ≤ 2 ^ 31 }
     requires width { bits < 2 * half }

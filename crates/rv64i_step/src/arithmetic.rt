@@ -4,6 +4,7 @@ ghost use Rattle.rv64i_step.specs.Arithmetic.{extended_word, flag, imm_result, i
 use rv64i_decode::{BranchOp, ImmOp, RegOp, RegWOp, ShiftOp};
 
 /// The low 32 bits of a register.
+#[inline(always)]
 pub(crate) fn word_in(a: u64) -> u32
     ensures { result ≡ low_word a }
 {
@@ -11,6 +12,7 @@ pub(crate) fn word_in(a: u64) -> u32
 }
 
 /// A word as a register holds it: sign-extended.
+#[inline(always)]
 pub(crate) fn sign_extended(word: u32) -> u64
     ensures { result ≡ extended_word word }
 {
@@ -18,6 +20,7 @@ pub(crate) fn sign_extended(word: u32) -> u64
 }
 
 // Whether a is less than b, with sign.
+#[inline(always)]
 fn is_below(a: u64, b: u64) -> bool
     ensures { result ≡ is_less_signed a b }
 {
@@ -26,6 +29,7 @@ fn is_below(a: u64, b: u64) -> bool
 
 /// What an operation on a register and an immediate computes, of the sign-extended immediate.
 #[tactic(auto, unfolding(crate::specs::Arithmetic::imm_result))]
+#[inline(always)]
 pub(crate) fn imm_value(op: ImmOp, a: u64, b: u64) -> u64
     ensures { result ≡ imm_result op a b }
 {
@@ -41,6 +45,7 @@ pub(crate) fn imm_value(op: ImmOp, a: u64, b: u64) -> u64
 
 /// A register shifted by an amount of the instruction.
 #[tactic(auto, unfolding(crate::specs::Arithmetic::shift_result))]
+#[inline(always)]
 pub(crate) fn shift_value(op: ShiftOp, a: u64, amount: u8) -> u64
     requires { amount < 64 }
     ensures { result ≡ shift_result op a amount }
@@ -54,6 +59,7 @@ pub(crate) fn shift_value(op: ShiftOp, a: u64, amount: u8) -> u64
 
 /// A word shifted by an amount of the instruction.
 #[tactic(auto, unfolding(crate::specs::Arithmetic::shift_w_result))]
+#[inline(always)]
 pub(crate) fn shift_w_value(op: ShiftOp, a: u32, amount: u8) -> u32
     requires { amount < 32 }
     ensures { result ≡ shift_w_result op a amount }
@@ -67,6 +73,7 @@ pub(crate) fn shift_w_value(op: ShiftOp, a: u32, amount: u8) -> u32
 
 /// What an operation on two registers computes.
 #[tactic(auto, unfolding(crate::specs::Arithmetic::reg_result))]
+#[inline(always)]
 pub(crate) fn reg_value(op: RegOp, a: u64, b: u64) -> u64
     ensures { result ≡ reg_result op a b }
 {
@@ -86,6 +93,7 @@ pub(crate) fn reg_value(op: RegOp, a: u64, b: u64) -> u64
 
 /// What an operation on two words computes.
 #[tactic(auto, unfolding(crate::specs::Arithmetic::reg_w_result))]
+#[inline(always)]
 pub(crate) fn reg_w_value(op: RegWOp, a: u32, b: u32) -> u32
     ensures { result ≡ reg_w_result op a b }
 {
@@ -100,6 +108,7 @@ pub(crate) fn reg_w_value(op: RegWOp, a: u32, b: u32) -> u32
 
 /// Whether a branch is taken.
 #[tactic(auto, unfolding(crate::specs::Arithmetic::is_taken))]
+#[inline(always)]
 pub(crate) fn takes_branch(op: BranchOp, a: u64, b: u64) -> bool
     ensures { result ≡ is_taken op a b }
 {

@@ -18,6 +18,7 @@ use rv64i_decode::{Instr, LoadOp, decode};
 impl Vcpu {
     /// What the vCPU needs for its next event: nothing exactly where it is halted.
     #[tactic(auto, unfolding(crate::specs::Event::request_of))]
+    #[inline(always)]
     pub fn request(&self, shape: &Shape) -> Request
         ensures request { result ≡ request_of shape.now self.now }
         ensures nothing { (result ≡ Nothing) ↔ (self.now.state ≢ Running) }
@@ -36,6 +37,7 @@ impl Vcpu {
 
     /// The vCPU's part of the fetch event, of the word that it got: `None` where the request was `NoFetch`.
     #[tactic(auto, unfolding(crate::specs::Event::fetched_vcpu))]
+    #[inline(always)]
     pub fn fetched(&mut self, shape: &Shape, word: Option<u32>)
         requires ready { IsReady self.old }
         ensures event { self.new ≡ fetched_vcpu shape.now self.old word }
@@ -58,6 +60,7 @@ impl Vcpu {
 
     /// The vCPU's part of the access event. For a load or an AMO the value is what the cell gave, without sign.
     #[tactic(auto, unfolding(crate::specs::Event::accessed_vcpu))]
+    #[inline(always)]
     pub fn accessed(&mut self, value: u64)
         requires pending { IsSome self.old.pending }
         requires steps { self.old.steps < 2 ^ 63 }
@@ -73,6 +76,7 @@ impl Vcpu {
     }
 
     // The access that is pending.
+    #[inline(always)]
     fn access_request(&self, access: Access) -> Request
         requires kind { AccessesMemory access.instr }
         requires valid { IsValid access.instr }
@@ -107,6 +111,7 @@ impl Vcpu {
     }
 
     // The instruction is finished with what its access gave.
+    #[inline(always)]
     fn finish_access(&mut self, access: Access, value: u64)
         requires kind { AccessesMemory access.instr }
         requires steps { self.old.steps < 2 ^ 63 }
@@ -129,6 +134,7 @@ impl Vcpu {
 }
 
 // The fetch at an address.
+#[inline(always)]
 fn fetch_request(shape: &Shape, pc: u64) -> Request
     ensures request { result ≡ fetch_at (located shape.now pc Four ways.Fetch) }
     ensures something { result ≢ Nothing }
@@ -142,6 +148,7 @@ fn fetch_request(shape: &Shape, pc: u64) -> Request
 }
 
 /// The low bytes of a number, as many as an access moves.
+#[inline(always)]
 pub fn low_bytes_of(width: Width, a: u64) -> u64
     ensures value { result ≡ low_bytes width a }
     ensures fits { result ≡ low_bytes width result }
@@ -155,6 +162,7 @@ pub fn low_bytes_of(width: Width, a: u64) -> u64
 }
 
 // The low bytes that were read, sign-extended.
+#[inline(always)]
 fn extended_value(width: Width, a: u64) -> u64
     ensures { result ≡ extended width a }
 {
@@ -168,6 +176,7 @@ fn extended_value(width: Width, a: u64) -> u64
 
 // What a load writes to its register.
 #[tactic(auto, unfolding(crate::specs::Access::loaded))]
+#[inline(always)]
 fn loaded_value(op: LoadOp, a: u64) -> u64
     ensures { result ≡ loaded op a }
 {

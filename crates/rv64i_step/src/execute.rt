@@ -18,6 +18,7 @@ use rv64i_decode::{BranchOp, ImmOp, Instr, LoadOp, RegOp, RegWOp, ShiftOp, Store
 impl Vcpu {
     /// Carries out a fetched instruction, or makes its access pending.
     #[tactic(auto, unfolding(crate::specs::Execute::executed))]
+    #[inline(always)]
     pub(crate) fn execute(&mut self, shape: &Shape, instr: Instr)
         requires ready { IsReady self.old }
         requires valid { IsValid instr }
@@ -66,6 +67,7 @@ impl Vcpu {
     }
 
     /// The value of a register.
+    #[inline(always)]
     pub(crate) fn read(&self, i: u8) -> u64
         requires { i < 32 }
         ensures { result ≡ reg_of self.now i }
@@ -74,6 +76,7 @@ impl Vcpu {
     }
 
     /// Writes a register. A write to x0 vanishes.
+    #[inline(always)]
     pub(crate) fn write(&mut self, i: u8, value: u64)
         requires { i < 32 }
         ensures event { self.new ≡ with_reg self.old i value }
@@ -86,6 +89,7 @@ impl Vcpu {
     }
 
     /// The instruction is finished, and the next one is at this address.
+    #[inline(always)]
     pub(crate) fn go_on_from(&mut self, pc: u64)
         requires { self.old.steps < 2 ^ 63 }
         ensures event { self.new ≡ finished self.old pc }
@@ -96,6 +100,7 @@ impl Vcpu {
     }
 
     /// The instruction is finished, and the next one follows in memory.
+    #[inline(always)]
     pub(crate) fn go_on(&mut self)
         requires { self.old.steps < 2 ^ 63 }
         ensures event { self.new ≡ finished self.old (next_pc self.old) }
@@ -106,6 +111,7 @@ impl Vcpu {
     }
 
     /// The instruction is finished with this result.
+    #[inline(always)]
     pub(crate) fn write_result(&mut self, rd: u8, value: u64)
         requires steps { self.old.steps < 2 ^ 63 }
         requires rd { rd < 32 }
@@ -118,6 +124,7 @@ impl Vcpu {
     }
 
     /// The instruction halts the vCPU, and changes nothing else.
+    #[inline(always)]
     pub(crate) fn halt(&mut self, cause: Cause)
         requires { self.old.pending ≡ None }
         ensures event { self.new ≡ halted self.old cause }
@@ -126,6 +133,7 @@ impl Vcpu {
         self.state = State::Halted(cause);
     }
 
+    #[inline(always)]
     fn address(&self, rs1: u8, off: i64) -> u64
         requires { rs1 < 32 }
         ensures { result ≡ address_of self.now rs1 off }
@@ -134,6 +142,7 @@ impl Vcpu {
     }
 
     // Makes an access pending, or halts.
+    #[inline(always)]
     fn aim(&mut self, shape: &Shape, instr: Instr, address: u64, width: Width, way: Way)
         requires ready { IsReady self.old }
         requires valid { IsValid instr }
@@ -148,6 +157,7 @@ impl Vcpu {
     }
 
     // A jump that keeps where it came from in rd.
+    #[inline(always)]
     fn jump(&mut self, rd: u8, target: u64)
         requires ready { IsReady self.old }
         requires rd { rd < 32 }
@@ -163,6 +173,7 @@ impl Vcpu {
         self.go_on_from(target);
     }
 
+    #[inline(always)]
     fn jump_to_register(&mut self, rd: u8, rs1: u8, off: i64)
         requires ready { IsReady self.old }
         requires rd { rd < 32 }
@@ -174,6 +185,7 @@ impl Vcpu {
         self.jump(rd, target - target % 2);
     }
 
+    #[inline(always)]
     fn branch(&mut self, op: BranchOp, rs1: u8, rs2: u8, off: i64)
         requires ready { IsReady self.old }
         requires rs1 { rs1 < 32 }
@@ -192,6 +204,7 @@ impl Vcpu {
         }
     }
 
+    #[inline(always)]
     fn operate_imm(&mut self, op: ImmOp, rd: u8, rs1: u8, imm: i64)
         requires steps { self.old.steps < 2 ^ 63 }
         requires rd { rd < 32 }
@@ -203,6 +216,7 @@ impl Vcpu {
         self.write_result(rd, value);
     }
 
+    #[inline(always)]
     fn add_imm_word(&mut self, rd: u8, rs1: u8, imm: i64)
         requires steps { self.old.steps < 2 ^ 63 }
         requires rd { rd < 32 }
@@ -214,6 +228,7 @@ impl Vcpu {
         self.write_result(rd, sign_extended(sum));
     }
 
+    #[inline(always)]
     fn shift(&mut self, op: ShiftOp, rd: u8, rs1: u8, amount: u8)
         requires steps { self.old.steps < 2 ^ 63 }
         requires rd { rd < 32 }
@@ -226,6 +241,7 @@ impl Vcpu {
         self.write_result(rd, value);
     }
 
+    #[inline(always)]
     fn shift_word(&mut self, op: ShiftOp, rd: u8, rs1: u8, amount: u8)
         requires steps { self.old.steps < 2 ^ 63 }
         requires rd { rd < 32 }
@@ -238,6 +254,7 @@ impl Vcpu {
         self.write_result(rd, sign_extended(word));
     }
 
+    #[inline(always)]
     fn operate(&mut self, op: RegOp, rd: u8, rs1: u8, rs2: u8)
         requires steps { self.old.steps < 2 ^ 63 }
         requires rd { rd < 32 }
@@ -250,6 +267,7 @@ impl Vcpu {
         self.write_result(rd, value);
     }
 
+    #[inline(always)]
     fn operate_words(&mut self, op: RegWOp, rd: u8, rs1: u8, rs2: u8)
         requires steps { self.old.steps < 2 ^ 63 }
         requires rd { rd < 32 }
@@ -264,6 +282,7 @@ impl Vcpu {
 }
 
 /// How many bytes a load moves.
+#[inline(always)]
 pub(crate) fn width_of_load(op: LoadOp) -> Width
     ensures { result ≡ load_width op }
 {
@@ -276,6 +295,7 @@ pub(crate) fn width_of_load(op: LoadOp) -> Width
 }
 
 /// How many bytes a store moves.
+#[inline(always)]
 pub(crate) fn width_of_store(op: StoreOp) -> Width
     ensures { result ≡ store_width op }
 {
@@ -288,6 +308,7 @@ pub(crate) fn width_of_store(op: StoreOp) -> Width
 }
 
 /// How many bytes an AMO moves.
+#[inline(always)]
 pub(crate) fn width_of_amo(wide: bool) -> Width
     ensures { result ≡ amo_width wide }
 {

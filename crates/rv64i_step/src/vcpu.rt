@@ -57,6 +57,7 @@ impl Vcpu {
     }
 
     /// The value of register x0 to x31.
+    #[inline(always)]
     pub fn reg(&self, i: u32) -> u64
         requires { i < 32 }
         ensures value { result ≡ reg_of self.now i }
@@ -75,6 +76,7 @@ impl Vcpu {
     }
 
     /// How many instructions it has finished.
+    #[inline(always)]
     pub fn steps(&self) -> u64
         ensures value { result ≡ self.now.steps }
         ensures limits { IsVcpu self.now }
@@ -82,6 +84,7 @@ impl Vcpu {
         self.steps
     }
 
+    #[inline(always)]
     pub fn state(&self) -> State
         ensures value { result ≡ self.now.state }
         ensures limits { IsVcpu self.now }
