@@ -33,7 +33,9 @@ fn main(rt: HostRuntime) -> io::Result<()> {
 fn wanted_phases<R: Env>(rt: &R) -> io::Result<u32> {
     let mut digits = [0; 16];
     match rt.arg(2, &mut digits) {
-        Ok(len) => text_of(&digits[..len])?.parse::<u32>().map_err(|_| bad_argument()),
+        Ok(len) => text_of(&digits[..len])?
+            .parse::<u32>()
+            .map_err(|_| bad_argument()),
         Err(_) => Err(bad_argument()),
     }
 }
@@ -48,7 +50,7 @@ fn bad_argument() -> io::Error {
 
 // How many instructions the guest finishes in so many phases.
 fn instructions_of(alloc: Global, image: &[u8], phases: u32) -> io::Result<u64> {
-    let Ok(shape) = Shape::new(1, MAX_BLOCKS, MAX_PAGES) else {
+    let Ok(shape) = Shape::new(1, MAX_BLOCKS.into(), MAX_PAGES.into()) else {
         return Err(io::Error::from(ErrorKind::Other));
     };
     if image.len() as u64 > shape.ram_bytes() {

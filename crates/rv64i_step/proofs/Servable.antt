@@ -171,4 +171,3 @@ pub unfetched_servable : (shape : ShapeData) (v : VcpuData) (cause : Cause) → 
 unfolding fetched_vcpu
 unfetched_servable shape v cause asks is =
     subst (λ (r : Request). IsServable shape (unfetched v r)) (sym asks) (servable_none shape (halted v cause) is)
-

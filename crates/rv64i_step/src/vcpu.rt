@@ -7,9 +7,10 @@ use std::marker::Model;
 /// A virtual processor: its registers, its pc, how many instructions it has finished, and whether it runs.
 #[derive(Clone, Copy, Debug, PartialEq, Eq)]
 pub struct Vcpu {
+    // Apart from the steps: where both are in one vector register, each event waits until the earlier ones are written.
+    pub(crate) pc: u64,
     // x1 to x31.
     pub(crate) regs: [u64; 31],
-    pub(crate) pc: u64,
     pub(crate) steps: u64,
     pub(crate) state: State,
     pub(crate) pending: Option<Access>,
