@@ -13,7 +13,7 @@ use Rattle.flat_machine.specs.Laws.{EventOutcome, OfFetch, OfAccess}
 use Rattle.flat_machine.specs.Machine.{MachineData, Rest}
 use Rattle.flat_machine.specs.Next.{next}
 use Rattle.flat_machine.specs.Run.{is_halted, steps_of, vcpu_ended, has_ended}
-use Rattle.flat_machine.specs.UnderWay.{AwaitsMemory, IsOn, AreOn, made_of, left_in, left_of, left_at}
+use Rattle.flat_machine.specs.UnderWay.{IsOn, AreOn, made_of, left_in, left_of, left_at}
 use Rattle.flat_machine.proofs.Outcomes.{AwaitMemory, none_awaits, outcome_kind, option_cases, All-slice_get, next_event, next_others, next_count, next_on, halted_at-is}
 
 -- ---- One vCPU

@@ -3,7 +3,7 @@ use Rattle.std.proofs.Common.{◌≡◌, ℕ, zero, suc, ◌+◌, ◌*◌, ◌<�
 use Rattle.std.proofs.lemmas.List.{length-drop, drop-drop, take-append-drop, nil_from_length}
 use Rattle.ram_block.specs.Shape.{ram_bytes_of, total_pages_of}
 use Rattle.ram_block.specs.declared.page_buf.TheConstants.{PAGE}
-use Rattle.flat_machine.specs.Cell.{CellName, PageCell, SerialCell, TimerCell, Page, Serial, Timer, content}
+use Rattle.flat_machine.specs.Cell.{PageCell, SerialCell, TimerCell}
 use Rattle.flat_machine.specs.Laws.{HasTheSame}
 use Rattle.flat_machine.specs.Machine.{MachineData, page_of}
 use Rattle.flat_machine.specs.Page.{page_at}

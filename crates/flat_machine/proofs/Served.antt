@@ -1,9 +1,8 @@
 -- What a machine can serve, the cell of the request can.
-use Rattle.std.proofs.Common.{◌≡◌, ℕ, ◌+◌, ◌<◌, ◌≤◌, Some, arith, subst}
+use Rattle.std.proofs.Common.{◌≡◌, ℕ, ◌<◌, Some, arith, subst}
 use Rattle.std.proofs.lemmas.Option.{none-some, same_Some}
 use Rattle.ram_block.specs.AddressMap.{width_bytes, IsAccess, IsRamAccess}
 use Rattle.ram_block.specs.Shape.{ShapeData, total_pages_of}
-use Rattle.ram_block.specs.declared.page_buf.TheConstants.{PAGE}
 use Rattle.ram_block.specs.declared.place.Place.{Place}
 use Rattle.ram_block.specs.declared.place.Place.TheVariants.{Ram, Serial, Timer}
 use Rattle.ram_block.specs.declared.place.Way.{Way}

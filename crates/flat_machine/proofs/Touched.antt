@@ -1,9 +1,9 @@
 -- The pages that a run touches: one event more, each page once, and which they are.
-use Rattle.std.proofs.Common.{◌≡◌, ◌⊎◌, inl, inr, ◌↔◌, ℕ, zero, suc, ◌<◌, List, [], ◌∷◌, ◌++◌, length, take, All, true, false, Bool, Option, Some, None, refl, sym, ◌∙◌, ap, subst, arith}
+use Rattle.std.proofs.Common.{◌≡◌, ◌⊎◌, inl, inr, ◌↔◌, ℕ, zero, suc, ◌<◌, List, [], ◌∷◌, ◌++◌, length, take, true, false, Bool, Option, Some, None, refl, sym, ◌∙◌, ap, subst, arith}
 use Rattle.std.specs.Prelude.{if◌then◌else◌, slice_index, nat_eq}
 use Rattle.std.specs.Cmp.{nat_eq_equiv}
 use Rattle.std.specs.List.{list_any, IsDistinct, Contains}
-use Rattle.std.proofs.lemmas.Bool.{cases_Bool, eqb-true}
+use Rattle.std.proofs.lemmas.Bool.{eqb-true}
 use Rattle.std.proofs.lemmas.List.Elements.{Contains-push, Contains-push_cases, Contains-append_left}
 use Rattle.std.proofs.lemmas.Map.Views.{Contains-from_any}
 use Rattle.std.proofs.lemmas.Map.Keys.{IsDistinct-push}
@@ -15,7 +15,6 @@ use Rattle.flat_machine.specs.Next.{next}
 use Rattle.flat_machine.specs.Run.{run_on, run}
 use Rattle.flat_machine.specs.Touched.{with_cell, touched_after, touched, IsTouched}
 use Rattle.flat_machine.proofs.Outcomes.{option_cases}
-use Rattle.flat_machine.proofs.Runs.{run_on-append}
 
 -- no event touches nothing
 touched_after-nil : (pages : List ℕ) (m : Option MachineData) → touched_after pages m [] ≡ pages

@@ -1,5 +1,5 @@
 -- An event writes to one page at most: every other page stays.
-use Rattle.std.proofs.Common.{◌≡◌, ◌≢◌, ℕ, ◌<◌, List, Some, None, refl, sym, ◌∙◌, ap, subst}
+use Rattle.std.proofs.Common.{◌≡◌, ◌≢◌, ℕ, ◌<◌, List, Some, refl, sym, ◌∙◌, ap}
 use Rattle.std.specs.List.{slice_get}
 use Rattle.std.proofs.lemmas.Option.{none-some, same_Some}
 use Rattle.ram_block.specs.Shape.{total_pages_of}
@@ -10,13 +10,13 @@ use Rattle.rv64i_step.specs.Request.{ram_page, written_page}
 use Rattle.rv64i_step.specs.Vcpu.{VcpuData}
 use Rattle.rv64i_step.specs.declared.request.Request.{Request}
 use Rattle.rv64i_step.specs.declared.request.Request.TheVariants.{Nothing, NoFetch, Fetch, Load, Store, Amo}
-use Rattle.flat_machine.specs.Cell.{CellName, PageCell, Page, cell_at, content, content_after, page_after}
-use Rattle.flat_machine.specs.Laws.{ServesAll, event_cell, written_page_of_next, event_written_page}
+use Rattle.flat_machine.specs.Cell.{PageCell, Page, cell_at, content, content_after, page_after}
+use Rattle.flat_machine.specs.Laws.{ServesAll, written_page_of_next, event_written_page}
 use Rattle.flat_machine.specs.Machine.{MachineData, page_of}
-use Rattle.flat_machine.specs.Next.{cell_of, after_cell_event, next}
+use Rattle.flat_machine.specs.Next.{cell_of, next}
 use Rattle.flat_machine.proofs.Cells.{cell_cases}
 use Rattle.flat_machine.proofs.Frames.{Touching, Alone, event_case, event_cell-is, next_keeps, cell_event_content, request_content}
-use Rattle.std.proofs.Common.{◌⊎◌, inl, inr}
+use Rattle.std.proofs.Common.{inl, inr}
 
 -- the page that the next event writes is that of its request
 event_written_page-is : (m : MachineData) (k : ℕ) (v : VcpuData) (r : Request) → slice_get m.vcpus k ≡ Some v → request_of m.shape v ≡ r →
