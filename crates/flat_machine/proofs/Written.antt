@@ -19,7 +19,7 @@ use Rattle.flat_machine.proofs.Frames.{Touching, Alone, event_case, event_cell-i
 use Rattle.std.proofs.Common.{inl, inr}
 
 -- the page that the next event writes is that of its request
-event_written_page-is : (m : MachineData) (k : ℕ) (v : VcpuData) (r : Request) → slice_get m.vcpus k ≡ Some v → request_of m.shape v ≡ r →
+pub event_written_page-is : (m : MachineData) (k : ℕ) (v : VcpuData) (r : Request) → slice_get m.vcpus k ≡ Some v → request_of m.shape v ≡ r →
     event_written_page m k ≡ written_page r
 unfolding event_written_page
 event_written_page-is m k v r stood asks = ap (written_page_of_next m.shape) stood ∙ ap written_page asks
