@@ -1,11 +1,10 @@
 ghost use Rattle.std.specs.Prelude.{◌≡◌, ◌≤◌, ◌<◌, ◌+◌, ◌-◌, ◌*◌, ◌++◌, take, drop, length, map, replicate, vec_len, All, IfOk};
 ghost use Rattle.std.specs.List.{range_with_len};
 ghost use Rattle.ram_block.specs.Shape.{ram_bytes_of, total_pages_of};
+ghost use Rattle.ram_block.specs.declared.limits.TheConstants.{MAX_INPUT};
 ghost use Rattle.ram_block.specs.declared.page_buf.TheConstants.{PAGE};
-ghost use Rattle.rv64i_step.specs.Event.{IsServable};
-ghost use Rattle.rv64i_step.specs.Vcpu.{boot_vcpu};
-ghost use Rattle.serial_timer.specs.declared.serial.TheConstants.{MAX_SERIAL_INPUT};
-ghost use Rattle.flat_machine.specs.Machine.{boot, IsMachine, Rest};
+ghost use Rattle.rv64i_step.specs.Vcpu.{IsPlaced, boot_vcpu};
+ghost use Rattle.flat_machine.specs.Machine.{boot, IsMachine};
 ghost use Rattle.flat_machine.specs.Page.{joined};
 
 use crate::Machine;
@@ -24,7 +23,7 @@ impl Machine {
         input: &[u8],
     ) -> Result<Machine, NoMemory>
         requires image { length image.now ≤ ram_bytes_of shape }
-        requires input { length input.now ≤ MAX_SERIAL_INPUT }
+        requires input { length input.now ≤ MAX_INPUT }
         ensures boot { IfOk result (λ m. m ≡ boot shape image.now input.now) }
         ensures rest { IfOk result Rest }
         ensures limits { IfOk result IsMachine }

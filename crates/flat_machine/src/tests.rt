@@ -1,7 +1,6 @@
 use super::*;
-use ram_block::{Cause, Shape};
+use ram_block::{Cause, MAX_INPUT, Shape};
 use rv64i_step::{State, Vcpu};
-use serial_timer::MAX_SERIAL_INPUT;
 use std::alloc::{AllocError, Global};
 use std::test::Fail;
 
@@ -110,7 +109,7 @@ fn image_of(alloc: Global, words: &[u32]) -> Result<Vec<u8>, AllocError> {
 fn booted(alloc: Global, numbers: &[u64; 3], words: &[u32], input: &[u8]) -> Result<Machine, Fail> {
     let shape = Shape::new(numbers[0], numbers[1], numbers[2])?;
     let image = image_of(alloc, words)?;
-    if image.len() as u64 > shape.ram_bytes() || input.len() > MAX_SERIAL_INPUT {
+    if image.len() as u64 > shape.ram_bytes() || input.len() > MAX_INPUT {
         Err(OutOfLimits)?;
     }
     Ok(Machine::boot(alloc, shape, &image, input)?)
