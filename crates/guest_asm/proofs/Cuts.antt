@@ -1,11 +1,12 @@
 -- A text of plain bytes, a line without a label, and the parts round a byte.
 use Rattle.std.proofs.Common.{◌≡◌, ℕ, ◌<◌, Bool, true, not, ◌&&◌, ◌==◌, List, [], ◌∷◌, ◌++◌, length, reverse, unwrap_or, Option, Some, None, refl, ap, ap₂, ◌∙◌, arith}
 use Rattle.std.proofs.Math.Seq.{take-append_seam, drop-append-add}
+use Rattle.std.proofs.lemmas.Bool.{and_parts}
 use Rattle.std.specs.List.{list_all}
 use Rattle.std.specs.Option.{option_and_then}
 use Rattle.guest_asm.specs.Line.{Line, code_of, cut, first_word, is_blank, labelled, line_of, rest_of, trim}
 use Rattle.guest_asm.proofs.Listed.{are_plain, is_plain}
-use Rattle.guest_asm.proofs.Texts.{IsTidy, begins, ends_append, after_at, after_nowhere, all_fail, before_at, before_nowhere, both_pass, fails_append, position_at, position_nowhere, tidy_between, trim_tidy}
+use Rattle.guest_asm.proofs.Texts.{IsTidy, begins, ends_append, after_at, after_nowhere, all_fail, before_at, before_nowhere, fails_append, position_at, position_nowhere, tidy_between, trim_tidy}
 
 -- ---- Plain bytes
 
@@ -13,7 +14,7 @@ use Rattle.guest_asm.proofs.Texts.{IsTidy, begins, ends_append, after_at, after_
 pub all_pass : {X : Type 0} (p q : X → Bool) → ((x : X) → p x ≡ true → q x ≡ true) → (xs : List X) → list_all p xs ≡ true → list_all q xs ≡ true
 all_pass p q implied [] h = refl
 all_pass p q implied (x ∷ xs) h =
-    let both = both_pass (p x) (list_all p xs) h in
+    let both = and_parts (p x) (list_all p xs) h in
     rw (implied x both.0) (all_pass p q implied xs both.1)
 
 -- a plain byte is no blank
@@ -83,13 +84,13 @@ pub record IsPlain (text : List ℕ) : Type 0 where
 
 -- it has no blank at its front
 plain_begins : (b : ℕ) (bs : List ℕ) → are_plain (b ∷ bs) ≡ true → begins (b ∷ bs) ≡ true
-plain_begins b bs h = plain_blank b (both_pass (is_plain b) (are_plain bs) h).0
+plain_begins b bs h = plain_blank b (and_parts (is_plain b) (are_plain bs) h).0
 
 -- none at its end
 plain_ends : (b : ℕ) (bs : List ℕ) → are_plain (b ∷ bs) ≡ true → begins (reverse (b ∷ bs)) ≡ true
 plain_ends b [] h = plain_begins b [] h
 plain_ends b (c ∷ cs) h =
-    ends_append (b ∷ []) (c ∷ cs) (plain_ends c cs (both_pass (is_plain b) (are_plain (c ∷ cs)) h).1)
+    ends_append (b ∷ []) (c ∷ cs) (plain_ends c cs (and_parts (is_plain b) (are_plain (c ∷ cs)) h).1)
 
 -- none at either end
 pub plain_tidy : (text : List ℕ) → IsPlain text → IsTidy text

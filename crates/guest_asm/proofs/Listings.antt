@@ -1,10 +1,10 @@
 -- Each kind of statement of a listing places its piece.
 use Rattle.std.proofs.Common.{◌≡◌, ℕ, ◌^◌, ◌<◌, ◌++◌, true, List, ◌∷◌, Some, None, ℤ, pos, unsigned_abs, refl, sym, subst, append_assoc}
-use Rattle.std.specs.Fmt.{decimal}
+use Rattle.std.specs.Fmt.{decimal, signed_decimal}
 use Rattle.guest_asm.specs.declared.mnemonic.Mnemonic.{Mnemonic}
 use Rattle.guest_asm.specs.declared.mnemonic.Form.TheVariants as form
 use Rattle.guest_asm.specs.Bytes.{is_in_range, piece_of, size_of}
-use Rattle.guest_asm.specs.Listing.{at_register, indexed_text, number_text, numbered_text, register_text, registers_text, three_operands, two_operands}
+use Rattle.guest_asm.specs.Listing.{at_register, indexed_text, numbered_text, register_text, registers_text, three_operands, two_operands}
 use Rattle.guest_asm.specs.Mnemonic.{form_of}
 use Rattle.guest_asm.specs.Operand.{offset}
 use Rattle.guest_asm.specs.Statement.{Operands, are_registers, bare, number, numbered, operands_of, register_number, register_target, registers, registers_number, registers_of, registers_target, target_of}
@@ -80,10 +80,10 @@ pub numbered_places : (name : List ℕ) (m : Mnemonic) (a b : ℕ) (z : ℤ) →
     Places (numbered_text name a b z) (piece_of m (numbered (Some a) (Some b) None) z) (size_of m z)
 numbered_places name m a b z names is ha hb hz within =
     let shown = number_read z hz in
-    rest_places name (joined (register_text a) (joined (register_text b) (number_text z))) (numbered_text name a b z) m
-    (registers_number (Some a) (Some b) z) z (three_is name (register_text a) (register_text b) (number_text z)) names
-    (after_two a b (number_text z) ha hb (statement_plain (number_text z) shown.plain))
-    (rw is (number_form (register_text a) (register_text b) (number_text z) a b z (register_read a ha) (register_read b hb) shown)) refl
+    rest_places name (joined (register_text a) (joined (register_text b) (signed_decimal z))) (numbered_text name a b z) m
+    (registers_number (Some a) (Some b) z) z (three_is name (register_text a) (register_text b) (signed_decimal z)) names
+    (after_two a b (signed_decimal z) ha hb (statement_plain (signed_decimal z) shown.plain))
+    (rw is (number_form (register_text a) (register_text b) (signed_decimal z) a b z (register_read a ha) (register_read b hb) shown)) refl
     (with_number m z within)
 
 -- two registers and an offset
@@ -92,10 +92,10 @@ pub target_places : (name : List ℕ) (m : Mnemonic) (a b : ℕ) (z : ℤ) → N
     Places (numbered_text name a b z) (piece_of m (numbered (Some a) (Some b) None) z) (size_of m z)
 target_places name m a b z names is ha hb hz within =
     let shown = number_read z hz in
-    rest_places name (joined (register_text a) (joined (register_text b) (number_text z))) (numbered_text name a b z) m
-    (registers_target (Some a) (Some b) (offset z)) z (three_is name (register_text a) (register_text b) (number_text z)) names
-    (after_two a b (number_text z) ha hb (statement_plain (number_text z) shown.plain))
-    (rw is (target_form (register_text a) (register_text b) (number_text z) a b z (register_read a ha) (register_read b hb) shown)) refl
+    rest_places name (joined (register_text a) (joined (register_text b) (signed_decimal z))) (numbered_text name a b z) m
+    (registers_target (Some a) (Some b) (offset z)) z (three_is name (register_text a) (register_text b) (signed_decimal z)) names
+    (after_two a b (signed_decimal z) ha hb (statement_plain (signed_decimal z) shown.plain))
+    (rw is (target_form (register_text a) (register_text b) (signed_decimal z) a b z (register_read a ha) (register_read b hb) shown)) refl
     (with_number m z within)
 
 -- a register, and a number before one in parentheses
@@ -105,21 +105,21 @@ pub indexed_places : (name : List ℕ) (m : Mnemonic) (a : ℕ) (z : ℤ) (base 
 indexed_places name m a z base names is ha hb hz within =
     let shown = number_read z hz in
     let index = register_read base hb in
-    rest_places name (joined (register_text a) (number_text z ++ at_register base)) (indexed_text name a z base) m
-    (registers_number (Some a) (Some base) z) z (two_is name (register_text a) (number_text z ++ at_register base)) names
-    (after_one a (number_text z ++ at_register base) ha (indexed_statement (number_text z) (register_text base) base shown.plain index))
-    (rw is (indexed_form (register_text a) (number_text z) (register_text base) a base z (register_read a ha) shown index)) refl (with_number m z within)
+    rest_places name (joined (register_text a) (signed_decimal z ++ at_register base)) (indexed_text name a z base) m
+    (registers_number (Some a) (Some base) z) z (two_is name (register_text a) (signed_decimal z ++ at_register base)) names
+    (after_one a (signed_decimal z ++ at_register base) ha (indexed_statement (signed_decimal z) (register_text base) base shown.plain index))
+    (rw is (indexed_form (register_text a) (signed_decimal z) (register_text base) a base z (register_read a ha) shown index)) refl (with_number m z within)
 
 -- a register and an offset
 pub jump_places : (name : List ℕ) (m : Mnemonic) (a : ℕ) (z : ℤ) → Names name m → form_of m ≡ form.RegisterTarget →
     a < 32 → unsigned_abs z < 2 ^ 32 → is_in_range m z ≡ true →
-    Places (two_operands name (register_text a) (number_text z)) (piece_of m (numbered (Some a) None None) z) (size_of m z)
+    Places (two_operands name (register_text a) (signed_decimal z)) (piece_of m (numbered (Some a) None None) z) (size_of m z)
 jump_places name m a z names is ha hz within =
     let shown = number_read z hz in
-    rest_places name (joined (register_text a) (number_text z)) (two_operands name (register_text a) (number_text z)) m
-    (register_target (Some a) (offset z)) z (two_is name (register_text a) (number_text z)) names
-    (after_one a (number_text z) ha (statement_plain (number_text z) shown.plain))
-    (rw is (jump_form (register_text a) (number_text z) a z (register_read a ha) shown)) refl (with_number m z within)
+    rest_places name (joined (register_text a) (signed_decimal z)) (two_operands name (register_text a) (signed_decimal z)) m
+    (register_target (Some a) (offset z)) z (two_is name (register_text a) (signed_decimal z)) names
+    (after_one a (signed_decimal z) ha (statement_plain (signed_decimal z) shown.plain))
+    (rw is (jump_form (register_text a) (signed_decimal z) a z (register_read a ha) shown)) refl (with_number m z within)
 
 -- a register and a number without a sign
 pub upper_places : (name : List ℕ) (m : Mnemonic) (a n : ℕ) → Names name m → form_of m ≡ form.RegisterNumber →

@@ -1,7 +1,8 @@
 -- What a listing writes of registers and numbers is read back as them.
 use Rattle.std.proofs.Common.{◌≡◌, subst, ℕ, zero, suc, ◌+◌, ◌/◌, ◌%◌, ◌^◌, ◌<◌, ◌≤◌, ◌&&◌, ◌==◌, nat_eq, nat_lt, unsigned_abs, Bool, true, false, cond, List, [], ◌∷◌, ◌++◌, length, codes, ℤ, pos, negsuc, neg_ℤ, Option, Some, None, ◌∙◌, ap, refl, arith}
 use Rattle.std.specs.Char.{digit_value}
-use Rattle.std.specs.Fmt.{decimal, digits}
+use Rattle.std.specs.Fmt.{decimal, digits, signed_decimal}
+use Rattle.std.proofs.lemmas.Bool.{and_parts}
 use Rattle.std.specs.List.{list_all, starts_with}
 use Rattle.std.specs.Str.Parse.{AllDigits, IsNumeral, digits_value}
 use Rattle.std.proofs.lemmas.Fmt.{decimal_is_IsNumeral, length-decimal-le}
@@ -9,11 +10,10 @@ use Rattle.std.proofs.lemmas.Grind.{common_steps}
 use Rattle.std.proofs.lemmas.Int.{ints}
 use Rattle.std.proofs.lemmas.Int.Digits.{digits_push, digits_value_push}
 use Rattle.guest_asm.specs.Line.{begins_identifier, continues_identifier, is_blank}
-use Rattle.guest_asm.specs.Listing.{hex_digit, hex_digits, number_text, register_text}
+use Rattle.guest_asm.specs.Listing.{hex_digit, hex_digits, register_text}
 use Rattle.guest_asm.specs.Number.{has_digits, magnitude, number_in_radix, number_of}
 use Rattle.guest_asm.specs.Operand.{register_in, register_named}
 use Rattle.guest_asm.proofs.Forms.{IsNumberText, IsRegisterText}
-use Rattle.guest_asm.proofs.Texts.{both_pass}
 use Rattle.guest_asm.proofs.Listed.{are_plain, is_plain}
 
 -- a byte is none whose value as a digit is greater
@@ -110,22 +110,22 @@ decimal_some : (n : ℕ) → n < 10 ^ 19 → 0 < length (decimal n)
 decimal_some n small = (decimal_is_IsNumeral n (omega arith)).0.0
 
 -- a number with its sign
-neg_more : (n : ℕ) → neg_ℤ (pos (n + 1)) ≡ negsuc n
+neg_more : (n : ℕ) → neg_ℤ (pos (suc n)) ≡ negsuc n
 neg_more n = omega (arith, ints)
 
 plain_minus : (text : List ℕ) → are_plain text ≡ true → are_plain (45 ∷ text) ≡ true
 unfolding is_plain is_blank
 plain_minus text plain = all_cons is_plain 45 text refl plain
 
-number_back : (z : ℤ) → unsigned_abs z < 10 ^ 19 → number_of (number_text z) ≡ Some z
+number_back : (z : ℤ) → unsigned_abs z < 10 ^ 19 → number_of (signed_decimal z) ≡ Some z
 number_back (pos n) small = decimal_back n small
-number_back (negsuc n) small = negative_by (n + 1) (decimal (n + 1)) (decimal_magnitude (n + 1) (omega arith)) ∙ ap Some (neg_more n)
+number_back (negsuc n) small = negative_by (suc n) (decimal (suc n)) (decimal_magnitude (suc n) (omega arith)) ∙ ap Some (neg_more n)
 
-number_plain : (z : ℤ) → unsigned_abs z < 10 ^ 19 → are_plain (number_text z) ≡ true
+number_plain : (z : ℤ) → unsigned_abs z < 10 ^ 19 → are_plain (signed_decimal z) ≡ true
 number_plain (pos n) small = decimal_plain n small
-number_plain (negsuc n) small = plain_minus (decimal (n + 1)) (decimal_plain (n + 1) (omega arith))
+number_plain (negsuc n) small = plain_minus (decimal (suc n)) (decimal_plain (suc n) (omega arith))
 
-number_some : (z : ℤ) → unsigned_abs z < 10 ^ 19 → 0 < length (number_text z)
+number_some : (z : ℤ) → unsigned_abs z < 10 ^ 19 → 0 < length (signed_decimal z)
 number_some (pos n) small = decimal_some n small
 number_some (negsuc n) small = omega arith
 
@@ -191,7 +191,7 @@ below_at p k n false e h here other =
 below : (p : ℕ → Bool) (count : ℕ) → all_below p count ≡ true → (n : ℕ) → n < count → p n ≡ true
 below p zero all n h = absurd (omega arith)
 below p (suc k) all n h =
-    let parts = both_pass (p k) (all_below p k) all in
+    let parts = and_parts (p k) (all_below p k) all in
     below_at p k n (nat_lt n k) refl h parts.0 (λ less. below p k parts.1 n less)
 
 -- a register's text is read back
@@ -227,7 +227,7 @@ decimal_read n small =
     let few : n < 10 ^ 19 = omega arith in
     record { plain = record { plain = decimal_plain n few; some = decimal_some n few }; reads = decimal_back n few }
 
-pub number_read : (z : ℤ) → unsigned_abs z < 2 ^ 32 → IsNumberText (number_text z) z
+pub number_read : (z : ℤ) → unsigned_abs z < 2 ^ 32 → IsNumberText (signed_decimal z) z
 number_read z small =
     let few : unsigned_abs z < 10 ^ 19 = omega arith in
     record { plain = record { plain = number_plain z few; some = number_some z few }; reads = number_back z few }

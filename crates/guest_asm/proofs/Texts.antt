@@ -1,15 +1,11 @@
 -- A text round the first byte that passes a test, and a text without blanks at its ends.
 use Rattle.std.proofs.Common.{◌≡◌, ℕ, ◌-◌, Bool, true, false, not, ◌&&◌, nat_lt, List, [], ◌∷◌, ◌++◌, length, reverse, Some, None, refl, ap, ◌∙◌, length-append, drop_of_length-le, arith}
 use Rattle.std.proofs.Math.Seq.{take-append_seam, drop-append-add, take-length}
+use Rattle.std.proofs.lemmas.Bool.{and_parts}
 use Rattle.std.specs.List.{after_first, before_first, list_all, position, position_or_len, prefix_len}
 use Rattle.std.proofs.lemmas.List.{reverse-append}
 use Rattle.std.proofs.lemmas.List.Folds.{list_all-append}
 use Rattle.guest_asm.specs.Line.{is_blank, trim, trim_end, trim_front}
-
--- both of two tests
-pub both_pass : (a b : Bool) → (a && b) ≡ true → (a ≡ true) × (b ≡ true)
-both_pass true b h = (refl, h)
-both_pass false b h = absurd (grind (arith, h))
 
 -- elements that fail a test
 abbrev pub all_fail : {X : Type 0} → (X → Bool) → List X → Bool
@@ -20,14 +16,14 @@ pub first_at : {X : Type 0} (p : X → Bool) (a : List X) (c : X) (b : List X) �
     position_or_len p (a ++ c ∷ b) ≡ length a
 first_at p [] c b fails passes = rw passes
 first_at p (x ∷ xs) c b fails passes =
-    let both = both_pass (not (p x)) (all_fail p xs) fails in
+    let both = and_parts (not (p x)) (all_fail p xs) fails in
     rw both.0 (grind (arith, first_at p xs c b both.1 passes))
 
 -- and at the end where it nowhere passes
 pub first_nowhere : {X : Type 0} (p : X → Bool) (a : List X) → all_fail p a ≡ true → position_or_len p a ≡ length a
 first_nowhere p [] fails = refl
 first_nowhere p (x ∷ xs) fails =
-    let both = both_pass (not (p x)) (all_fail p xs) fails in
+    let both = and_parts (not (p x)) (all_fail p xs) fails in
     rw both.0 (grind (arith, first_nowhere p xs both.1))
 
 -- what stands before it

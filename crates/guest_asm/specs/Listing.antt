@@ -1,6 +1,6 @@
 -- The text that assembles to given bytes (this project's own, docs/COMMAND_LINE.md, Assembler).
 use Rattle.std.specs.Prelude.{◌≡◌, ℕ, zero, suc, ◌+◌, ◌-◌, ◌*◌, ◌/◌, ◌%◌, ◌^◌, ◌<◌, All, Bool, ◌&&◌, ◌==◌, nat_lt, List, [], ◌∷◌, ◌++◌, length, take, drop, codes, ℤ, pos, negsuc, Option, Some, None, if◌then◌else◌}
-use Rattle.std.specs.Fmt.{decimal}
+use Rattle.std.specs.Fmt.{decimal, signed_decimal}
 use Rattle.std.specs.Int.{from_le_bytes, w32}
 use Rattle.std.specs.List.{flat_map, range_with_len}
 use Rattle.std.specs.Option.{option_and_then, option_map_or}
@@ -13,10 +13,6 @@ use Rattle.guest_asm.specs.Mnemonic.{amo_text, branch_text, imm_text, load_text,
 
 abbrev pub register_text : ℕ → List ℕ
 register_text r = codes "x" ++ decimal r
-
-abbrev pub number_text : ℤ → List ℕ
-number_text (pos n) = decimal n
-number_text (negsuc n) = codes "-" ++ decimal (n + 1)
 
 -- the upper 20 bits of an immediate of lui or auipc, without a sign
 abbrev pub upper_number : ℤ → ℕ
@@ -34,13 +30,13 @@ abbrev pub registers_text : List ℕ → ℕ → ℕ → ℕ → List ℕ
 registers_text name a b c = three_operands name (register_text a) (register_text b) (register_text c)
 
 abbrev pub numbered_text : List ℕ → ℕ → ℕ → ℤ → List ℕ
-numbered_text name a b n = three_operands name (register_text a) (register_text b) (number_text n)
+numbered_text name a b n = three_operands name (register_text a) (register_text b) (signed_decimal n)
 
 abbrev pub at_register : ℕ → List ℕ
 at_register r = codes "(" ++ register_text r ++ codes ")"
 
 abbrev pub indexed_text : List ℕ → ℕ → ℤ → ℕ → List ℕ
-indexed_text name a n base = two_operands name (register_text a) (number_text n ++ at_register base)
+indexed_text name a n base = two_operands name (register_text a) (signed_decimal n ++ at_register base)
 
 -- ---- A statement
 
@@ -52,7 +48,7 @@ is_full_fence rd rs1 bits = rd == 0 && rs1 == 0 && bits == 0b1111_1111
 unfoldable pub statement_text : Instr → Option (List ℕ)
 statement_text (instr.Lui rd imm) = Some (two_operands (codes "lui") (register_text rd) (decimal (upper_number imm)))
 statement_text (instr.Auipc rd imm) = Some (two_operands (codes "auipc") (register_text rd) (decimal (upper_number imm)))
-statement_text (instr.Jal rd off) = Some (two_operands (codes "jal") (register_text rd) (number_text off))
+statement_text (instr.Jal rd off) = Some (two_operands (codes "jal") (register_text rd) (signed_decimal off))
 statement_text (instr.Jalr rd rs1 off) = Some (indexed_text (codes "jalr") rd off rs1)
 statement_text (instr.Branch op rs1 rs2 off) = Some (numbered_text (branch_text op) rs1 rs2 off)
 statement_text (instr.Load op rd rs1 off) = Some (indexed_text (load_text op) rd off rs1)

@@ -17,13 +17,14 @@ use crate::placed::Placed;
 use crate::statement::operands_of;
 use crate::text::{first_word, rest_of};
 use crate::{AsmFault, AsmKind, Mnemonic};
+use ram_block::MAX_RAM;
 use std::alloc::Global;
 
 /// The most bytes of a text.
 pub const MAX_TEXT: usize = 1_048_576;
 
-/// The most bytes that a text may assemble to.
-pub const MAX_ASSEMBLED: usize = 67_108_864;
+/// The most bytes that a text may assemble to: no machine has RAM for more.
+pub const MAX_ASSEMBLED: usize = MAX_RAM as usize;
 
 /// The bytes that a text assembles to, or its first wrong line and what is wrong with it.
 pub fn assemble(alloc: Global, text: &[u8]) -> Result<Vec<u8>, AsmFault>
