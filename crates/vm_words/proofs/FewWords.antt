@@ -117,7 +117,7 @@ new_key command before value (Some key) passes = (
 )
 
 -- a word that passes has a `=`
-passed_equals : (command : CommandName) (before : List (List ℕ)) (word : List ℕ) → word_kind command before word ≡ None → has_equals word ≡ true
+pub passed_equals : (command : CommandName) (before : List (List ℕ)) (word : List ℕ) → word_kind command before word ≡ None → has_equals word ≡ true
 passed_equals command before word passes = elim (cases_Bool (has_equals word)) [
   | inl has ↦ has
   | inr hasnt ↦ let kind = rw hasnt at passes in cc

@@ -1,6 +1,9 @@
 pub mod Draws
 pub mod Faults
 pub mod FewWords
+pub mod GivenWords
 pub mod Jobs
+pub mod JobLimits
+pub mod NoFaults
 pub mod Numerals
 pub mod Prefixes

@@ -2,7 +2,7 @@
 use Rattle.std.specs.Prelude.{ℕ, Bool, ◌&&◌, ◌||◌, nat_le, List, length, codes, is_some}
 use Rattle.std.specs.Str.{bytes_eq}
 use Rattle.vm_words.specs.declared.turns.TheConstants.{MAX_TURNS}
-use Rattle.vm_words.specs.declared.input.TheConstants.{MAX_INPUT}
+use Rattle.ram_block.specs.declared.limits.TheConstants.{MAX_INPUT}
 use Rattle.vm_words.specs.declared.command.CommandName.{CommandName}
 use Rattle.vm_words.specs.declared.command.CommandName.TheVariants.{Restore}
 use Rattle.vm_words.specs.declared.key.KeyName.{KeyName}

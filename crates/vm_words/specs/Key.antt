@@ -1,5 +1,6 @@
 -- The keys of a line, with the limits and the defaults of numbers (this project's own, docs/COMMAND_LINE.md).
 use Rattle.std.specs.Prelude.{ℕ, ◌-◌, ◌^◌, List, codes}
+use Rattle.ram_block.specs.declared.limits.TheConstants.{MAX_PHASE, MAX_RAM}
 use Rattle.ram_block.specs.declared.shape.TheConstants.{MAX_VCPUS, MAX_BLOCKS, MAX_PAGES}
 use Rattle.vm_words.specs.declared.key.Quantity.{Quantity}
 use Rattle.vm_words.specs.declared.key.Quantity.TheVariants.{Vcpus, Blocks, Pages, Stop, Run, Seed, Relay, At, Len}
@@ -45,11 +46,11 @@ abbrev pub most_of : Quantity → ℕ
 most_of Vcpus = MAX_VCPUS
 most_of Blocks = MAX_BLOCKS
 most_of Pages = MAX_PAGES
-most_of Stop = 1_000_000
-most_of Run = 1_000_000
+most_of Stop = MAX_PHASE
+most_of Run = MAX_PHASE
 most_of Seed = 2 ^ 64 - 1
 most_of Relay = 64
-most_of At = 67_108_863
+most_of At = MAX_RAM - 1
 most_of Len = 4096
 
 -- the number where the key isn't given; `at` and `len` are always given

@@ -3,6 +3,7 @@ pub mod Form
 pub mod Generator
 pub mod Job
 pub mod Key
+pub mod Limits
 pub mod Line
 pub mod Number
 pub mod Turns

@@ -1,5 +1,5 @@
 -- The turns that a line names (this project's own, docs/COMMAND_LINE.md).
-use Rattle.std.specs.Prelude.{ℕ, ◌-◌, Bool, false, ◌&&◌, ◌==◌, nat_le, List, filter_map, is_some, Option, Some, None, if◌then◌else◌}
+use Rattle.std.specs.Prelude.{ℕ, ◌-◌, ◌<◌, Bool, false, ◌&&◌, ◌==◌, nat_le, List, filter_map, is_some, Option, Some, None, if◌then◌else◌}
 use Rattle.std.specs.List.{list_all, list_any}
 use Rattle.vm_words.specs.declared.turns.TurnOf.{TurnOf}
 use Rattle.vm_words.specs.declared.turns.TurnOf.TheVariants.{Cpu, Saver}
@@ -27,3 +27,8 @@ is_absent vcpus Saver = false
 -- some turn is
 abbrev pub names_absent : ℕ → List ℕ → Bool
 names_absent vcpus text = list_any (is_absent vcpus) (turns_named text)
+
+-- the turn is the saver's, or that of a vCPU among so many
+abbrev pub IsTurn : ℕ → TurnOf → Type 0
+IsTurn vcpus (Cpu k) = k < vcpus
+IsTurn vcpus Saver = Unit {0}

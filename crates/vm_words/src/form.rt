@@ -3,7 +3,8 @@ ghost use Rattle.vm_words.specs.Form.{is_mode, is_of_form};
 
 use crate::number::number_within;
 use crate::turns::are_turns;
-use crate::{CommandName, KeyName, MAX_INPUT, MAX_TURNS};
+use crate::{CommandName, KeyName, MAX_TURNS};
+use ram_block::MAX_INPUT;
 
 /// Whether a value is of the form that the command's key has.
 pub(crate) fn is_of_form(command: CommandName, key: KeyName, value: &str) -> bool

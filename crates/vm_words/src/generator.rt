@@ -1,5 +1,6 @@
-ghost use Rattle.std.specs.Prelude.{◌≡◌, ◌+◌, ◌≤◌, IfOk};
+ghost use Rattle.std.specs.Prelude.{◌≡◌, ◌+◌, ◌≤◌, All, IfOk};
 ghost use Rattle.vm_words.specs.Generator.{next, turn_drawn, turns_drawn};
+ghost use Rattle.vm_words.specs.Turns.{IsTurn};
 
 use crate::{TurnOf, Turns};
 use ram_block::NoMemory;
@@ -17,7 +18,8 @@ pub fn next_draw(draw: u64) -> u64
 pub fn turns_of(alloc: Global, seed: u64, vcpus: u32, n: u32) -> Result<Turns, NoMemory>
     requires some { 1 ≤ vcpus }
     requires limit { vcpus ≤ 8 }
-    ensures { IfOk result (λ turns. turns ≡ turns_drawn seed vcpus n) }
+    ensures drawn { IfOk result (λ turns. turns ≡ turns_drawn seed vcpus n) }
+    ensures there { IfOk result (All (IsTurn vcpus)) }
 {
     let mut turns = Vec::new(alloc);
     let mut draw = seed;

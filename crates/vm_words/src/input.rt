@@ -2,9 +2,6 @@ ghost use Rattle.std.specs.Prelude.{◌≡◌};
 
 use std::marker::Model;
 
-/// The most bytes of serial input.
-pub const MAX_INPUT: usize = 4096;
-
 /// The bytes that a guest reads from its serial device.
 #[derive(Debug, Drop)]
 pub struct Input {

@@ -1,7 +1,7 @@
 ghost use Rattle.std.specs.Prelude.{◌≡◌};
 ghost use Rattle.vm_words.specs.Key.{default_of, key_text, least_of, most_of, quantity_text};
 
-use ram_block::{MAX_BLOCKS, MAX_PAGES, MAX_VCPUS};
+use ram_block::{MAX_BLOCKS, MAX_PAGES, MAX_PHASE, MAX_RAM, MAX_VCPUS};
 
 /// A key whose value is a number.
 #[derive(Clone, Copy, Debug, PartialEq, Eq)]
@@ -53,10 +53,11 @@ impl Quantity {
             Quantity::Vcpus => u64::from(MAX_VCPUS),
             Quantity::Blocks => u64::from(MAX_BLOCKS),
             Quantity::Pages => u64::from(MAX_PAGES),
-            Quantity::Stop | Quantity::Run => 1_000_000,
+            Quantity::Stop | Quantity::Run => u64::from(MAX_PHASE),
             Quantity::Seed => u64::MAX,
             Quantity::Relay => 64,
-            Quantity::At => 67_108_863,
+            Quantity::At => MAX_RAM - 1,
+            // No page need be read whole, so this is not the size of one.
             Quantity::Len => 4096,
         }
     }

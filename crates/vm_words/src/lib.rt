@@ -20,7 +20,7 @@ mod value;
 pub(crate) use command::CommandName;
 pub use fault::{UsageKind, WordsFault};
 pub use generator::{next_draw, turns_of};
-pub use input::{Input, MAX_INPUT};
+pub use input::Input;
 pub use job::{Job, Mode};
 pub(crate) use key::{KeyName, Quantity};
 pub use line::line_of;

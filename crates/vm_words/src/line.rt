@@ -1,5 +1,6 @@
 ghost use Rattle.std.specs.Prelude.{◌≡◌, ◌≢◌, ◌<◌, ◌≤◌, map, string_bytes, length, slice_get, IfOk, IfErr, IfSome, IfNone};
 ghost use Rattle.vm_words.specs.Job.{job, HasSmallIndex, IsOfWords, IsUsageOf};
+ghost use Rattle.vm_words.specs.Limits.{IsWithinLimits};
 ghost use Rattle.vm_words.specs.Line.{faults, faults_by, kind_at, lacks_key, word_kind};
 
 use crate::clash::first_clash;
@@ -11,6 +12,7 @@ use std::alloc::Global;
 /// The job that words give, or the first that is wrong and how.
 pub fn line_of(alloc: Global, words: &[String]) -> Result<Job, WordsFault>
     ensures job { IfOk result (λ made. job (map string_bytes words.now) ≡ Ok made) }
+    ensures limits { IfOk result IsWithinLimits }
     ensures usage { IfErr result (IsUsageOf (map string_bytes words.now)) }
     ensures index { IfErr result HasSmallIndex }
     ensures kind { IfErr result IsOfWords }

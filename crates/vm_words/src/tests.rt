@@ -245,6 +245,7 @@ fn values_go_together(rt: HostRuntime) -> Result<(), Fail> {
             "save image=a turns=1 out=b relay=1",
             Some((2, UsageKind::Value)),
         ),
+        ("peek in=a at=1044480 len=4096", None),
         ("peek in=a at=1048575 len=1", None),
         ("peek in=a at=1048575 len=2", Some((3, UsageKind::Value))),
         ("peek len=2 in=a at=1048575", Some((1, UsageKind::Value))),

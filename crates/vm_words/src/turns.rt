@@ -5,7 +5,8 @@ use ram_block::NoMemory;
 use std::alloc::Global;
 use std::marker::Model;
 
-/// The most turns that a line names, and as many as are drawn where it names none.
+/// The most turns that a line names, and as many as are drawn where it names none. It is no number of bytes: the most
+/// input is as many by chance.
 pub const MAX_TURNS: usize = 4096;
 
 /// Whose turn it is.

@@ -1,7 +1,9 @@
 -- The words are none, or a name and the rest of a line.
-use Rattle.std.proofs.Common.{string_bytes, sym, ap, ◌∙◌, Ok}
+use Rattle.std.proofs.Common.{map, string_bytes, sym, ap, ◌∙◌, Ok}
 use Rattle.vm_words.specs.Command.{command_named}
+use Rattle.vm_words.proofs.JobLimits.{job_limits}
 use Rattle.vm_words.proofs.Jobs.{job_of_none, job_unknown, job_faulty, job_right}
+use Rattle.vm_words.proofs.NoFaults.{passes}
 use Rattle.vm_words.proofs.line.line_of.Goals as goal
 
 pub returns-in_default-clause-usage : goal.returns-in_default-clause-usage
@@ -24,3 +26,8 @@ returns-in-Ok-clause-job c =
     (ap command_named (sym c.as_str.ensures.value) ∙ sym c.named.ensures ∙ c.in-Some-named.is)
     (sym c.first_fault.ensures.fault ∙ c.in_default-first_fault.is)
     ∙ ap Ok (sym c.in-Ok.ensures)
+
+pub returns-in-Ok-clause-limits : goal.returns-in-Ok-clause-limits
+returns-in-Ok-clause-limits c =
+    let rest = map string_bytes c.in-Some.rest.now in
+    rw c.in-Ok.ensures (job_limits c.in-Some-named.command rest (passes c.in-Some-named.command rest (sym c.first_fault.ensures.fault ∙ c.in_default-first_fault.is)))
