@@ -1,7 +1,9 @@
 -- An empty statement, and a statement without a number.
-use Rattle.std.proofs.Common.{◌≡◌, ℕ, List, [], ◌∷◌, length, ℤ, pos, true, IsTrue, Option, None, refl, arith}
+use Rattle.std.proofs.Common.{◌≡◌, ℕ, zero, suc, List, [], ◌∷◌, length, ℤ, pos, neg_ℤ, true, IsTrue, Option, None, refl, arith}
+use Rattle.std.proofs.Math.Dec.{leb-zero}
+use Rattle.std.specs.Prelude.{int_le}
 use Rattle.guest_asm.specs.declared.mnemonic.Mnemonic.{Mnemonic}
-use Rattle.guest_asm.specs.declared.mnemonic.Mnemonic.TheVariants.{Op, OpW, Imm, ImmW, Shift, ShiftW, Load, Jalr, Store, Branch, Jal, Lui, Auipc, Amo, Fence, Ecall, Ebreak, Byte, Word, Dword, Zero}
+use Rattle.guest_asm.specs.declared.mnemonic.Mnemonic.TheVariants.{Op, OpW, Imm, ImmW, Shift, ShiftW, Load, Jalr, Store, Branch, Jal, Lui, Auipc, Amo, Fence, Ecall, Ebreak, Data, Zero}
 use Rattle.guest_asm.specs.Assemble.{statement_kind, statement_piece}
 use Rattle.guest_asm.specs.Bytes.{is_in_range, size_of}
 use Rattle.guest_asm.specs.Labels.{size_placed}
@@ -25,6 +27,11 @@ unfolding size_placed mnemonic_named
 empty_size [] h = refl
 empty_size (b ∷ bs) h = absurd (omega arith)
 
+-- the negative of a number isn't above 0
+negative_low : (k : ℕ) → int_le (neg_ℤ (pos k)) (pos 0) ≡ true
+negative_low zero = refl
+negative_low (suc k) = refl
+
 -- every statement takes the number 0
 pub zero_in_range : (m : Mnemonic) → is_in_range m (pos 0) ≡ true
 unfolding is_in_range
@@ -45,9 +52,7 @@ zero_in_range (Amo op wide order) = refl
 zero_in_range Fence = refl
 zero_in_range Ecall = refl
 zero_in_range Ebreak = refl
-zero_in_range Byte = refl
-zero_in_range Word = refl
-zero_in_range Dword = refl
+zero_in_range (Data directive) = rw (negative_low, leb-zero) refl
 zero_in_range Zero = refl
 
 -- the size of a jump is the same for every number
@@ -69,7 +74,5 @@ size_of_jump (Amo op wide order) n h = refl
 size_of_jump Fence n h = refl
 size_of_jump Ecall n h = refl
 size_of_jump Ebreak n h = refl
-size_of_jump Byte n h = refl
-size_of_jump Word n h = refl
-size_of_jump Dword n h = refl
+size_of_jump (Data directive) n h = refl
 size_of_jump Zero n h = absurd (grind (arith, h))

@@ -2,6 +2,7 @@ pub mod Amos
 pub mod Chunks
 pub mod Cuts
 pub mod Digits
+pub mod Directives
 pub mod Empty
 pub mod Finds
 pub mod Forms

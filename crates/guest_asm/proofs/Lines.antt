@@ -9,7 +9,8 @@ use Rattle.rv64i_decode.specs.Decode.{instr_of}
 use Rattle.rv64i_decode.specs.Immediate.{IsUpperImmediate}
 use Rattle.rv64i_decode.specs.Row.{Row}
 use Rattle.rv64i_decode.specs.Valid.{IsValid}
-use Rattle.guest_asm.specs.declared.mnemonic.Mnemonic.TheVariants.{Amo, Auipc, Branch, Byte, Ebreak, Ecall, Fence, Imm, ImmW, Jal, Jalr, Load, Lui, Op, OpW, Shift, ShiftW, Store, Word}
+use Rattle.guest_asm.specs.declared.directive.Directive.TheVariants.{Byte, Word}
+use Rattle.guest_asm.specs.declared.mnemonic.Mnemonic.TheVariants.{Amo, Auipc, Branch, Data, Ebreak, Ecall, Fence, Imm, ImmW, Jal, Jalr, Load, Lui, Op, OpW, Shift, ShiftW, Store}
 use Rattle.guest_asm.specs.Bytes.{Piece, instruction, given, piece_of}
 use Rattle.guest_asm.specs.Listing.{byte_line, hex_digits, is_full_fence, register_text, statement_text, two_operands, upper_number, word_line}
 use Rattle.guest_asm.specs.Mnemonic.{amo_text, branch_text, imm_text, load_text, reg_text, reg_w_text, shift_text, shift_w_text, store_text, suffix_text}
@@ -121,8 +122,8 @@ word_given : (digits : List ℕ) (word : ℕ) → word < 2 ^ 32 → IsNumberText
 unfolding piece_of
 word_given digits word small h =
     let range = amount_range word 4294967295 (omega arith) in
-    given_places (codes ".word") (codes "0x" ++ digits) Word (pos word) word_name refl h
-    (in_range Word (pos word) (record { least = negative 2147483647 word; most = range.1; even = not_jump }))
+    given_places (codes ".word") (codes "0x" ++ digits) (Data Word) (pos word) word_name refl h
+    (in_range (Data Word) (pos word) (record { least = negative 2147483647 word; most = range.1; even = not_jump }))
 
 -- a byte that is given by its digits
 byte_given : (digits : List ℕ) (byte : ℕ) → byte < 2 ^ 8 → IsNumberText (codes "0x" ++ digits) (pos byte) →
@@ -130,8 +131,8 @@ byte_given : (digits : List ℕ) (byte : ℕ) → byte < 2 ^ 8 → IsNumberText 
 unfolding piece_of
 byte_given digits byte small h =
     let range = amount_range byte 255 (omega arith) in
-    given_places (codes ".byte") (codes "0x" ++ digits) Byte (pos byte) byte_name refl h
-    (in_range Byte (pos byte) (record { least = negative 127 byte; most = range.1; even = not_jump }))
+    given_places (codes ".byte") (codes "0x" ++ digits) (Data Byte) (pos byte) byte_name refl h
+    (in_range (Data Byte) (pos byte) (record { least = negative 127 byte; most = range.1; even = not_jump }))
 
 -- the line of a word, by the statement of its instruction or by its digits
 by_statement : (word : ℕ) (i : Instr) (text : Option (List ℕ)) (other : List ℕ) → Row word i → PlacesSome text i →

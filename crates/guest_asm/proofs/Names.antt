@@ -15,7 +15,8 @@ use Rattle.rv64i_decode.specs.declared.op.RegOp.TheVariants as reg
 use Rattle.rv64i_decode.specs.declared.op.RegWOp.{RegWOp}
 use Rattle.rv64i_decode.specs.declared.op.RegWOp.TheVariants.{Addw, Sllw, Srlw, Subw, Sraw}
 use Rattle.guest_asm.specs.declared.mnemonic.Mnemonic.{Mnemonic}
-use Rattle.guest_asm.specs.declared.mnemonic.Mnemonic.TheVariants.{Op, OpW, Imm, ImmW, Shift, ShiftW, Load, Jalr, Store, Branch, Jal, Lui, Auipc, Fence, Ecall, Ebreak, Byte, Word}
+use Rattle.guest_asm.specs.declared.directive.Directive.TheVariants.{Byte, Word}
+use Rattle.guest_asm.specs.declared.mnemonic.Mnemonic.TheVariants.{Op, OpW, Imm, ImmW, Shift, ShiftW, Load, Jalr, Store, Branch, Jal, Lui, Auipc, Fence, Ecall, Ebreak, Data}
 use Rattle.guest_asm.specs.Line.{is_blank}
 use Rattle.guest_asm.specs.Mnemonic.{branch_text, imm_text, load_text, mnemonic_named, reg_text, reg_w_text, shift_text, shift_w_text, store_text}
 use Rattle.guest_asm.proofs.Cuts.{IsPlain}
@@ -147,11 +148,11 @@ unfolding mnemonic_named is_plain is_blank
 ebreak_name = names _ _ refl refl refl
 
 -- .word
-pub word_name : Names (codes ".word") Word
+pub word_name : Names (codes ".word") (Data Word)
 unfolding mnemonic_named is_plain is_blank
 word_name = names _ _ refl refl refl
 
 -- .byte
-pub byte_name : Names (codes ".byte") Byte
+pub byte_name : Names (codes ".byte") (Data Byte)
 unfolding mnemonic_named is_plain is_blank
 byte_name = names _ _ refl refl refl

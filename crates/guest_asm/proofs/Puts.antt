@@ -1,7 +1,7 @@
 -- Bytes put behind others.
 use Rattle.std.proofs.Common.{◌≡◌, ◌++◌, ℕ, List, ℤ, Result, Ok, Err, OnOk, refl}
 use Rattle.guest_asm.specs.declared.mnemonic.Mnemonic.{Mnemonic}
-use Rattle.guest_asm.specs.declared.mnemonic.Mnemonic.TheVariants.{Op, OpW, Imm, ImmW, Shift, ShiftW, Load, Jalr, Store, Branch, Jal, Lui, Auipc, Amo, Fence, Ecall, Ebreak, Byte, Word, Dword, Zero}
+use Rattle.guest_asm.specs.declared.mnemonic.Mnemonic.TheVariants.{Op, OpW, Imm, ImmW, Shift, ShiftW, Load, Jalr, Store, Branch, Jal, Lui, Auipc, Amo, Fence, Ecall, Ebreak, Data, Zero}
 use Rattle.guest_asm.specs.declared.operand.Registers.{Registers}
 use Rattle.guest_asm.specs.Bytes.{bytes_given, piece_of}
 use Rattle.guest_asm.specs.Steps.{GivesBytes, PutsPiece}
@@ -27,9 +27,7 @@ puts_given (Amo op wide order) r n old new gives h = absurd gives
 puts_given Fence r n old new gives h = absurd gives
 puts_given Ecall r n old new gives h = absurd gives
 puts_given Ebreak r n old new gives h = absurd gives
-puts_given Byte r n old new gives h = record { added = bytes_given Byte n; is_piece = refl; joined = h }
-puts_given Word r n old new gives h = record { added = bytes_given Word n; is_piece = refl; joined = h }
-puts_given Dword r n old new gives h = record { added = bytes_given Dword n; is_piece = refl; joined = h }
+puts_given (Data directive) r n old new gives h = record { added = bytes_given (Data directive) n; is_piece = refl; joined = h }
 puts_given Zero r n old new gives h = record { added = bytes_given Zero n; is_piece = refl; joined = h }
 
 -- the same of a call that may want memory

@@ -5,7 +5,7 @@ use Rattle.rv64i_decode.specs.declared.instr.Instr.{Instr}
 use Rattle.rv64i_decode.specs.Immediate.{IsUpperImmediate}
 use Rattle.rv64i_decode.specs.Valid.{IsValid}
 use Rattle.guest_asm.specs.declared.mnemonic.Mnemonic.{Mnemonic}
-use Rattle.guest_asm.specs.declared.mnemonic.Mnemonic.TheVariants.{Op, OpW, Imm, ImmW, Shift, ShiftW, Load, Jalr, Store, Branch, Jal, Lui, Auipc, Amo, Fence, Ecall, Ebreak, Byte, Word, Dword, Zero}
+use Rattle.guest_asm.specs.declared.mnemonic.Mnemonic.TheVariants.{Op, OpW, Imm, ImmW, Shift, ShiftW, Load, Jalr, Store, Branch, Jal, Lui, Auipc, Amo, Fence, Ecall, Ebreak, Data, Zero}
 use Rattle.guest_asm.specs.declared.operand.Registers.{Registers}
 use Rattle.guest_asm.specs.Bytes.{Piece, instruction, given, piece_of, upper_immediate}
 use Rattle.guest_asm.specs.Facts.{AreBelow32, HasSmallOrder, IsInRange}
@@ -60,9 +60,7 @@ valid_piece (Amo op wide order) r n s o h = (s.first, s.third, s.second, grind (
 valid_piece Fence r n s o h = (omega arith, omega arith, omega arith)
 valid_piece Ecall r n s o h = tt
 valid_piece Ebreak r n s o h = tt
-valid_piece Byte r n s o h = tt
-valid_piece Word r n s o h = tt
-valid_piece Dword r n s o h = tt
+valid_piece (Data directive) r n s o h = tt
 valid_piece Zero r n s o h = tt
 
 -- so the instruction of a statement is
@@ -83,8 +81,6 @@ small_number (Branch op) n h code = (omega (arith, ints, h.least), omega (arith,
 small_number Jal n h code = (omega (arith, ints, h.least), omega (arith, ints, h.most))
 small_number Lui n h code = (omega (arith, ints, h.least), omega (arith, ints, h.most))
 small_number Auipc n h code = (omega (arith, ints, h.least), omega (arith, ints, h.most))
-small_number Byte n h code = absurd (code tt)
-small_number Word n h code = absurd (code tt)
-small_number Dword n h code = absurd (code tt)
+small_number (Data directive) n h code = absurd (code tt)
 small_number Zero n h code = absurd (code tt)
 small_number _ n h code = (omega (arith, ints, h.least), omega (arith, ints, h.most))

@@ -1,15 +1,16 @@
 -- What a statement places (this project's own, docs/COMMAND_LINE.md, Assembler): an instruction, whose word is that of
 -- rv64i_decode's table, or bytes that are given.
-use Rattle.std.specs.Prelude.{◌≡◌, ℕ, ◌+◌, ◌*◌, ◌-◌, ◌^◌, ◌%◌, Bool, true, false, ◌&&◌, ◌==◌, List, [], ◌∷◌, ◌++◌, replicate, ℤ, pos, negsuc, int_le, unsigned_abs, if◌then◌else◌}
-use Rattle.std.specs.Int.{to_le_bytes, w8, w32, w64}
+use Rattle.std.specs.Prelude.{◌≡◌, ℕ, ◌+◌, ◌*◌, ◌-◌, ◌^◌, ◌%◌, Bool, true, false, ◌&&◌, ◌==◌, List, [], ◌∷◌, ◌++◌, replicate, ℤ, pos, negsuc, neg_ℤ, int_le, unsigned_abs, if◌then◌else◌}
+use Rattle.std.specs.Int.{bytes_low_first, to_le_bytes, w32}
 use Rattle.rv64i_decode.specs.declared.instr.Instr.{Instr}
 use Rattle.rv64i_decode.specs.declared.instr.Instr.TheVariants as instr
 use Rattle.rv64i_decode.specs.Decode.{twos_complement}
 use Rattle.rv64i_decode.specs.Row.{Row}
 use Rattle.guest_asm.specs.declared.mnemonic.Mnemonic.{Mnemonic}
-use Rattle.guest_asm.specs.declared.mnemonic.Mnemonic.TheVariants.{Op, OpW, Imm, ImmW, Shift, ShiftW, Load, Jalr, Store, Branch, Jal, Lui, Auipc, Amo, Fence, Ecall, Ebreak, Byte, Word, Dword, Zero}
+use Rattle.guest_asm.specs.declared.mnemonic.Mnemonic.TheVariants.{Op, OpW, Imm, ImmW, Shift, ShiftW, Load, Jalr, Store, Branch, Jal, Lui, Auipc, Amo, Fence, Ecall, Ebreak, Data, Zero}
 use Rattle.guest_asm.specs.declared.assembler.TheConstants.{MAX_ASSEMBLED}
 use Rattle.guest_asm.specs.declared.operand.Registers.{Registers}
+use Rattle.guest_asm.specs.Directive.{row_of}
 
 -- a piece of the answer
 pub data Piece : Type 0 where
@@ -34,9 +35,7 @@ range_of (Branch op) = record { least = negsuc 4095; most = pos 4094 }
 range_of Jal = record { least = negsuc 1048575; most = pos 1048574 }
 range_of Lui = record { least = pos 0; most = pos 1048575 }
 range_of Auipc = record { least = pos 0; most = pos 1048575 }
-range_of Byte = record { least = negsuc 127; most = pos 255 }
-range_of Word = record { least = negsuc 2147483647; most = pos 4294967295 }
-range_of Dword = record { least = negsuc 9223372036854775807; most = pos 18446744073709551615 }
+range_of (Data directive) = let bits = 8 * (row_of directive).bytes in record { least = neg_ℤ (pos (2 ^ (bits - 1))); most = pos (2 ^ bits - 1) }
 range_of Zero = record { least = pos 0; most = pos MAX_ASSEMBLED }
 range_of _ = record { least = pos 0; most = pos 0 }
 
@@ -54,8 +53,7 @@ is_in_range m n =
 
 -- how many bytes a statement with this number places
 abbrev pub size_of : Mnemonic → ℤ → ℕ
-size_of Byte n = 1
-size_of Dword n = 8
+size_of (Data directive) n = (row_of directive).bytes
 size_of Zero n = unsigned_abs n
 size_of _ n = 4
 
@@ -70,9 +68,7 @@ wrapped modulus (negsuc n) = modulus - (n + 1)
 
 -- the bytes of a statement that gives some, the lowest first
 abbrev pub bytes_given : Mnemonic → ℤ → List ℕ
-bytes_given Byte n = to_le_bytes w8 (wrapped (2 ^ 8) n)
-bytes_given Word n = to_le_bytes w32 (wrapped (2 ^ 32) n)
-bytes_given Dword n = to_le_bytes w64 (wrapped (2 ^ 64) n)
+bytes_given (Data directive) n = let count = (row_of directive).bytes in bytes_low_first 0 count (wrapped (2 ^ (8 * count)) n)
 bytes_given Zero n = replicate (unsigned_abs n) 0
 bytes_given _ n = []
 
@@ -95,9 +91,7 @@ piece_of (Amo op wide order) r n = instruction (instr.Amo op wide r.first r.thir
 piece_of Fence r n = instruction (instr.Fence 0 0 0b1111_1111)
 piece_of Ecall r n = instruction instr.Ecall
 piece_of Ebreak r n = instruction instr.Ebreak
-piece_of Byte r n = given (bytes_given Byte n)
-piece_of Word r n = given (bytes_given Word n)
-piece_of Dword r n = given (bytes_given Dword n)
+piece_of (Data directive) r n = given (bytes_given (Data directive) n)
 piece_of Zero r n = given (bytes_given Zero n)
 
 -- the bytes are those of a piece: of an instruction its word by the table, the lowest byte first

@@ -1,5 +1,6 @@
 pub mod Assemble
 pub mod Bytes
+pub mod Directive
 pub mod Facts
 pub mod Labels
 pub mod Line

@@ -19,10 +19,12 @@ use Rattle.rv64i_decode.specs.declared.op.RegWOp.{RegWOp}
 use Rattle.rv64i_decode.specs.declared.op.RegWOp.TheVariants.{Addw, Sllw, Srlw, Subw, Sraw}
 use Rattle.rv64i_decode.specs.declared.op.AmoOp.{AmoOp}
 use Rattle.rv64i_decode.specs.declared.op.AmoOp.TheVariants as amo
+use Rattle.guest_asm.specs.declared.directive.Directive.TheVariants.{Byte, Word, Dword}
 use Rattle.guest_asm.specs.declared.mnemonic.Mnemonic.{Mnemonic}
-use Rattle.guest_asm.specs.declared.mnemonic.Mnemonic.TheVariants.{Op, OpW, Imm, ImmW, Shift, ShiftW, Load, Jalr, Store, Branch, Jal, Lui, Auipc, Amo, Fence, Ecall, Ebreak, Byte, Word, Dword, Zero}
+use Rattle.guest_asm.specs.declared.mnemonic.Mnemonic.TheVariants.{Op, OpW, Imm, ImmW, Shift, ShiftW, Load, Jalr, Store, Branch, Jal, Lui, Auipc, Amo, Fence, Ecall, Ebreak, Data, Zero}
 use Rattle.guest_asm.specs.declared.mnemonic.Form.{Form}
 use Rattle.guest_asm.specs.declared.mnemonic.Form.TheVariants as form
+use Rattle.guest_asm.specs.Directive.{row_of}
 
 -- how the operations are written
 abbrev pub reg_text : RegOp → List ℕ
@@ -127,9 +129,7 @@ mnemonic_name (Amo op wide order) = amo_text op
 mnemonic_name Fence = codes "fence"
 mnemonic_name Ecall = codes "ecall"
 mnemonic_name Ebreak = codes "ebreak"
-mnemonic_name Byte = codes ".byte"
-mnemonic_name Word = codes ".word"
-mnemonic_name Dword = codes ".dword"
+mnemonic_name (Data directive) = (row_of directive).text
 mnemonic_name Zero = codes ".zero"
 
 -- all of them but the AMO instructions
@@ -142,7 +142,7 @@ plain_mnemonics =
     ∷ Load Lb ∷ Load Lh ∷ Load Lw ∷ Load Ld ∷ Load Lbu ∷ Load Lhu ∷ Load Lwu ∷ Jalr
     ∷ Store Sb ∷ Store Sh ∷ Store Sw ∷ Store Sd
     ∷ Branch Beq ∷ Branch Bne ∷ Branch Blt ∷ Branch Bge ∷ Branch Bltu ∷ Branch Bgeu
-    ∷ Jal ∷ Lui ∷ Auipc ∷ Fence ∷ Ecall ∷ Ebreak ∷ Byte ∷ Word ∷ Dword ∷ Zero ∷ []
+    ∷ Jal ∷ Lui ∷ Auipc ∷ Fence ∷ Ecall ∷ Ebreak ∷ Data Byte ∷ Data Word ∷ Data Dword ∷ Zero ∷ []
 
 -- the AMO operations, and what may follow the dot behind one: the width and the order
 abbrev pub amo_ops : List AmoOp
@@ -192,7 +192,5 @@ form_of (Amo op wide order) = form.RegistersAt
 form_of Fence = form.Bare
 form_of Ecall = form.Bare
 form_of Ebreak = form.Bare
-form_of Byte = form.Number
-form_of Word = form.Number
-form_of Dword = form.Number
+form_of (Data directive) = form.Number
 form_of Zero = form.Number

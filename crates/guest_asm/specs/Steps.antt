@@ -15,7 +15,7 @@ use Rattle.guest_asm.specs.declared.fault.AsmKind.{AsmKind}
 use Rattle.guest_asm.specs.declared.fault.AsmKind.TheVariants as kind
 use Rattle.guest_asm.specs.declared.labels.Spot.{Spot}
 use Rattle.guest_asm.specs.declared.mnemonic.Mnemonic.{Mnemonic}
-use Rattle.guest_asm.specs.declared.mnemonic.Mnemonic.TheVariants.{Byte, Word, Dword, Zero}
+use Rattle.guest_asm.specs.declared.mnemonic.Mnemonic.TheVariants.{Data, Zero}
 use Rattle.guest_asm.specs.Bytes.{IsPiece, Piece, piece_of, size_of}
 use Rattle.guest_asm.specs.Assemble.{line_kind, statement_piece}
 use Rattle.guest_asm.specs.Line.{line_of}
@@ -38,9 +38,7 @@ HasSmallRegisters (number n) = Unit {0}
 
 -- the statement gives bytes, and is no instruction
 abbrev pub GivesBytes : Mnemonic → Type 0
-GivesBytes Byte = Unit {0}
-GivesBytes Word = Unit {0}
-GivesBytes Dword = Unit {0}
+GivesBytes (Data directive) = Unit {0}
 GivesBytes Zero = Unit {0}
 GivesBytes _ = ⊥
 

@@ -4,6 +4,7 @@
 #![tactic(auto)]
 
 mod assembler;
+mod directive;
 mod fault;
 mod labels;
 mod line;
@@ -18,6 +19,7 @@ mod statement;
 mod text;
 
 pub use assembler::{MAX_ASSEMBLED, MAX_TEXT, assemble};
+pub(crate) use directive::Directive;
 pub use fault::{AsmFault, AsmKind};
 pub use lister::listing;
 pub(crate) use mnemonic::{Form, Mnemonic};

@@ -3,6 +3,7 @@ ghost use Rattle.std.specs.Str.{bytes_eq};
 ghost use Rattle.guest_asm.specs.Mnemonic.{amo_named, amo_op_named, amo_with, form_of, mnemonic_named, mnemonic_name, plain_named, suffix_named};
 ghost use Rattle.guest_asm.specs.Facts.{HasSmallOrder};
 
+use crate::Directive;
 use crate::spelling::{
     of_amo, of_branch, of_imm, of_load, of_reg, of_reg_w, of_shift, of_shift_w, of_store,
 };
@@ -30,9 +31,7 @@ pub(crate) enum Mnemonic {
     Fence,
     Ecall,
     Ebreak,
-    Byte,
-    Word,
-    Dword,
+    Data(Directive),
     Zero,
 }
 
@@ -113,9 +112,9 @@ const PLAIN: [Mnemonic; 56] = [
     Mnemonic::Fence,
     Mnemonic::Ecall,
     Mnemonic::Ebreak,
-    Mnemonic::Byte,
-    Mnemonic::Word,
-    Mnemonic::Dword,
+    Mnemonic::Data(Directive::Byte),
+    Mnemonic::Data(Directive::Word),
+    Mnemonic::Data(Directive::Dword),
     Mnemonic::Zero,
 ];
 
@@ -147,7 +146,7 @@ impl Mnemonic {
             Mnemonic::Lui | Mnemonic::Auipc => Form::RegisterNumber,
             Mnemonic::Amo(..) => Form::RegistersAt,
             Mnemonic::Fence | Mnemonic::Ecall | Mnemonic::Ebreak => Form::Bare,
-            Mnemonic::Byte | Mnemonic::Word | Mnemonic::Dword | Mnemonic::Zero => Form::Number,
+            Mnemonic::Data(_) | Mnemonic::Zero => Form::Number,
         }
     }
 }
@@ -184,9 +183,7 @@ fn mnemonic_name(mnemonic: Mnemonic) -> &'static str
         Mnemonic::Fence => "fence",
         Mnemonic::Ecall => "ecall",
         Mnemonic::Ebreak => "ebreak",
-        Mnemonic::Byte => ".byte",
-        Mnemonic::Word => ".word",
-        Mnemonic::Dword => ".dword",
+        Mnemonic::Data(directive) => directive.text(),
         Mnemonic::Zero => ".zero",
     }
 }

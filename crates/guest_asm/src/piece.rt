@@ -1,6 +1,5 @@
-ghost use Rattle.std.specs.Prelude.{◌≡◌, ◌<◌, ◌≤◌, ◌+◌, ◌++◌, ◌^◌, pos, neg_ℤ, ◌≤ℤ◌, ◌<ℤ◌, IsTrue, IfSome, IfNone, OnOk, false, vec_len, unsigned_abs};
-ghost use Rattle.std.specs.Int.{to_le_bytes, w8, w32, w64};
-ghost use Rattle.guest_asm.specs.Bytes.{bytes_given, instruction, is_in_range, is_jump, piece_of, range_of, size_of, upper_immediate, wrapped};
+ghost use Rattle.std.specs.Prelude.{◌≡◌, ◌<◌, ◌≤◌, ◌+◌, ◌++◌, ◌^◌, pos, ◌≤ℤ◌, IsTrue, IfSome, IfNone, OnOk, false, vec_len, unsigned_abs};
+ghost use Rattle.guest_asm.specs.Bytes.{bytes_given, instruction, is_in_range, is_jump, piece_of, range_of, size_of, upper_immediate};
 ghost use Rattle.guest_asm.specs.Facts.{AreBelow32, HasSmallOrder, IsInRange};
 ghost use Rattle.guest_asm.specs.Steps.{GivesBytes, PutsPiece};
 
@@ -25,9 +24,7 @@ impl Mnemonic {
             Mnemonic::Branch(_) => (-4096, 4094),
             Mnemonic::Jal => (-1048576, 1048574),
             Mnemonic::Lui | Mnemonic::Auipc => (0, 1048575),
-            Mnemonic::Byte => (-128, 255),
-            Mnemonic::Word => (-2147483648, 4294967295),
-            Mnemonic::Dword => (-9223372036854775808, 18446744073709551615),
+            Mnemonic::Data(directive) => directive.range(),
             Mnemonic::Zero => (0, MAX_ASSEMBLED as i128),
             _ => (0, 0),
         }
@@ -54,10 +51,7 @@ impl Mnemonic {
         ensures gives { IsTrue result → GivesBytes self }
         ensures code { (result ≡ false) → GivesBytes self → ⊥ }
     {
-        matches!(
-            self,
-            Mnemonic::Byte | Mnemonic::Word | Mnemonic::Dword | Mnemonic::Zero
-        )
+        matches!(self, Mnemonic::Data(_) | Mnemonic::Zero)
     }
 
     /// How many bytes a statement with this number places.
@@ -67,8 +61,7 @@ impl Mnemonic {
         ensures small { result ≤ MAX_ASSEMBLED }
     {
         match self {
-            Mnemonic::Byte => 1,
-            Mnemonic::Dword => 8,
+            Mnemonic::Data(directive) => directive.bytes(),
             Mnemonic::Zero => number as usize,
             _ => 4,
         }
@@ -142,7 +135,7 @@ impl Mnemonic {
             },
             Mnemonic::Ecall => Instr::Ecall,
             Mnemonic::Ebreak => Instr::Ebreak,
-            Mnemonic::Byte | Mnemonic::Word | Mnemonic::Dword | Mnemonic::Zero => return None,
+            Mnemonic::Data(_) | Mnemonic::Zero => return None,
         })
     }
 }
@@ -218,45 +211,7 @@ fn put_given(bytes: &mut Vec<u8>, mnemonic: Mnemonic, number: i128) -> Result<()
     ensures len { OnOk result (vec_len bytes.new ≡ vec_len bytes.old + size_of mnemonic number) }
 {
     match mnemonic {
-        Mnemonic::Byte => bytes.extend_from_slice(&byte_of(number)),
-        Mnemonic::Word => bytes.extend_from_slice(&word_of(number)),
-        Mnemonic::Dword => bytes.extend_from_slice(&dword_of(number)),
+        Mnemonic::Data(directive) => directive.put(bytes, number),
         _ => bytes.resize(bytes.len() + number as usize, 0),
-    }
-}
-
-fn byte_of(number: i128) -> [u8; 1]
-    requires { IsInRange Mnemonic.Byte number }
-    ensures { result ≡ to_le_bytes w8 (wrapped (2 ^ 8) number) }
-{
-    (low_bits(number, 256) as u8).to_le_bytes()
-}
-
-fn word_of(number: i128) -> [u8; 4]
-    requires { IsInRange Mnemonic.Word number }
-    ensures { result ≡ to_le_bytes w32 (wrapped (2 ^ 32) number) }
-{
-    (low_bits(number, 4294967296) as u32).to_le_bytes()
-}
-
-fn dword_of(number: i128) -> [u8; 8]
-    requires { IsInRange Mnemonic.Dword number }
-    ensures { result ≡ to_le_bytes w64 (wrapped (2 ^ 64) number) }
-{
-    (low_bits(number, 18446744073709551616) as u64).to_le_bytes()
-}
-
-// The number, or a negative one's two's complement to a modulus.
-fn low_bits(number: i128, modulus: u128) -> u128
-    requires width { modulus ≤ 2 ^ 64 }
-    requires least { neg_ℤ (pos modulus) ≤ℤ number }
-    requires most { number <ℤ pos modulus }
-    ensures low { result ≡ wrapped modulus number }
-    ensures small { result < modulus }
-{
-    if number < 0 {
-        (number + modulus as i128) as u128
-    } else {
-        number as u128
     }
 }
