@@ -18,7 +18,7 @@ pub record Register : Type 0 where
   pub loads : Bool
   pub stores : Bool
 
--- the device table
+-- the device table, a line for each register; RAM is none
 abbrev pub register_of : Place → Register
 register_of (Serial Tx) = record { addr = SERIAL_DATA; width = One; loads = false; stores = true }
 register_of (Serial Rx) = record { addr = SERIAL_DATA; width = One; loads = true; stores = false }

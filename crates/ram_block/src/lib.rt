@@ -1,4 +1,5 @@
-//! The shape of a machine and its guest-physical address space: pages, blocks and vCPUs.
+//! The shape of a machine and its guest-physical address space: pages, blocks and vCPUs; the limits that crates
+//! share; and, in `specs/` alone, lists of pages as links by page number.
 //! Every other crate stands on this one, which stands on none of the repository's.
 #![tactic(auto)]
 

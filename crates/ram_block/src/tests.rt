@@ -41,6 +41,28 @@ fn the_limits_that_crates_share(rt: HostRuntime) {
 }
 
 #[test]
+fn a_cause_has_the_code_of_the_table(rt: HostRuntime) {
+    for (code, cause) in [
+        (1, Cause::FetchMisaligned),
+        (2, Cause::FetchOutside),
+        (3, Cause::Illegal),
+        (4, Cause::JumpMisaligned),
+        (5, Cause::LoadMisaligned),
+        (6, Cause::LoadOutside),
+        (7, Cause::StoreMisaligned),
+        (8, Cause::StoreOutside),
+        (9, Cause::Ecall),
+        (10, Cause::Ebreak),
+    ] {
+        assert_eq!(rt; cause.code(), code);
+        assert_eq!(rt; Cause::of_code(code), Some(cause));
+    }
+    for code in [0, 11, 255] {
+        assert_eq!(rt; Cause::of_code(code), None);
+    }
+}
+
+#[test]
 fn a_shape_knows_its_limits(rt: HostRuntime) -> Result<(), Fail> {
     let largest = Shape::new(8, 8, 2048)?;
     assert_eq!(rt; largest.ram_bytes(), 64 * 1024 * 1024);
