@@ -1,13 +1,9 @@
 -- The images of a file in memory, and those since an earlier moment.
 use Rattle.std.proofs.Common.{inl, inr, ⊎_elim, ℕ, List, [], ◌∷◌, length, sym, subst, arith}
-use Rattle.medium.specs.Crash.{Torn, Follows, SameImages, Only, Elapses}
+use Rattle.medium.specs.Crash.{Torn, Follows, Only, Elapses}
 use Rattle.medium.specs.History.{Event, Wrote, Synced, bytes_after, MayLeave, MightHaveLeft, synced}
-use Rattle.medium.specs.Memory.{MediumData, images_of, moment_of, since_of}
+use Rattle.medium.specs.Memory.{MediumData, images_of}
 use Rattle.medium.specs.Laws.{torn_same, whole_image}
-
--- no time goes by where nothing happens
-pub elapses_same : (m : MediumData) → Elapses (moment_of m) (moment_of m) (since_of m) (since_of m) (images_of m)
-elapses_same m = record { later = omega arith; nothing_else = λ t image le left. inl left; keeps = λ t image le left. left }
 
 -- one event more
 pub elapses_event : (first : List ℕ) (past : List Event) (event : Event)
@@ -33,9 +29,6 @@ only_synced first (Synced ∷ past) image left = left
 
 pub no_more_synced : (first : List ℕ) (past : List Event) (image : List ℕ) → MayLeave first (synced past) image → MayLeave first past image
 no_more_synced first past image left = subst (MayLeave first past) (sym (only_synced first past image left)) (whole_image first past)
-
-pub images_same : (m : MediumData) → SameImages (images_of m) (images_of m)
-images_same m image = (λ left. left, λ left. left)
 
 -- a write that failed
 pub follows_same : (m : MediumData) (at n : ℕ) → Follows (Torn at n) (images_of m) (images_of m)

@@ -50,6 +50,16 @@ get_written at bytes file i = elim (cases_lt i at) [
           ∙ sym (cond-false _ _ _ (and_right _ _ (le-ltb i (at + length bytes) after)))
     ]
 
+-- the same by where the byte stands: in the range, before it, and behind it
+pub written_within : (at i : ℕ) (bytes file : List ℕ) → at ≤ i → i < at + length bytes → get_or (written at bytes file) i 0 ≡ get_or bytes (i - at) 0
+written_within at i bytes file from within = get_written at bytes file i ∙ cond-true _ _ _ (and_from _ _ (le-leb at i from) (lt-ltb i (at + length bytes) within))
+
+pub written_before : (at i : ℕ) (bytes file : List ℕ) → i < at → get_or (written at bytes file) i 0 ≡ get_or file i 0
+written_before at i bytes file before = get_written at bytes file i ∙ cond-false _ _ _ (and_left _ _ (lt-leb at i before))
+
+pub written_behind : (at i : ℕ) (bytes file : List ℕ) → at + length bytes ≤ i → get_or (written at bytes file) i 0 ≡ get_or file i 0
+written_behind at i bytes file after = get_written at bytes file i ∙ cond-false _ _ _ (and_right _ _ (le-ltb i (at + length bytes) after))
+
 -- a write over a file that was made long enough by zeros
 abbrev grown : ℕ → List ℕ → List ℕ
 grown end file = file ++ replicate (end - length file) 0

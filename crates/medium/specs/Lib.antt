@@ -1,7 +1,9 @@
 pub mod Count
 pub mod Bytes
 pub mod Crash
+pub mod States
 pub mod History
 pub mod Memory
 pub mod Log
 pub mod Laws
+pub mod Members

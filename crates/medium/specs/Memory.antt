@@ -1,8 +1,9 @@
 -- The implementations in memory as plain data: what they keep, and what each call makes of it.
-use Rattle.std.specs.Prelude.{◌⊎◌, ℕ, ◌+◌, ◌<◌, ◌≤◌, List, ◌∷◌, length, Option}
+use Rattle.std.specs.Prelude.{◌≡◌, ◌⊎◌, ℕ, ◌+◌, ◌<◌, ◌≤◌, List, ◌∷◌, length, Option, Some}
 use Rattle.std.specs.Option.{IsSomeAnd}
 use Rattle.std.specs.List.{Contains}
 use Rattle.medium.specs.Count.{counted}
+use Rattle.medium.specs.States.{FileState}
 use Rattle.medium.specs.History.{Event, Wrote, bytes_after, MayLeave, MightHaveLeft, synced, count_writes, bytes_written}
 
 -- the calls that fail by plan, and how many calls were made and have failed
@@ -59,6 +60,14 @@ moment_of m = length m.past
 -- what a crash since a moment might have left
 abbrev pub since_of : MediumData → ℕ → List ℕ → Type 0
 since_of m = MightHaveLeft m.first m.past
+
+-- what the file shows
+abbrev pub state_of : MediumData → FileState
+state_of m = record { told = Some (bytes_of m); faults = m.count.faults; syncs = m.syncs; may_leave = images_of m; moment = moment_of m; left_since = since_of m }
+
+-- what bytes in memory show, of which no call fails and which nothing changes
+abbrev pub still_state : List ℕ → FileState
+still_state bytes = record { told = Some bytes; faults = 0; syncs = 0; may_leave = λ image. image ≡ bytes; moment = 0; left_since = λ t image. image ≡ bytes }
 
 -- a write of n bytes is past a limit: the room, the number of writes, or the room for the bytes of all writes
 abbrev pub IsPastLimits : MediumData → ℕ → ℕ → Type 0

@@ -1,8 +1,8 @@
 ghost use Rattle.std.specs.Prelude.{◌≡◌, ◌≤◌, ◌+◌, ◌^◌, List, ℕ, Option, Some, length, IfOk, IfSome, IsOk};
 ghost use Rattle.std.proofs.Common.{inl};
 ghost use Rattle.medium.specs.Count.{HasCause};
-ghost use Rattle.medium.specs.Crash.{SameImages, Elapses};
 ghost use Rattle.medium.specs.Bytes.{ReadsAt};
+ghost use Rattle.medium.specs.States.{Leaves};
 
 use crate::{Failed, Readable};
 use std::marker::Model;
@@ -30,6 +30,8 @@ impl MemBytes {
 }
 
 impl Readable for MemBytes {
+    ghost use Rattle.medium.specs.Memory.{still_state};
+
     ghost told = { λ b. Some b };
 
     ghost faults = { λ b. 0 };
@@ -51,10 +53,7 @@ impl Readable for MemBytes {
     fn len(&mut self) -> Result<u64, Failed>
         ensures answer { IfOk result (λ n. n ≡ length self.old) }
         ensures cause { HasCause 0 0 result }
-
-        ensures told { Some self.new ≡ Some self.old }
-        ensures images { SameImages (λ image. image ≡ self.old) (λ image. image ≡ self.new) }
-        ensures time { Elapses 0 0 (λ t image. image ≡ self.old) (λ t image. image ≡ self.new) (λ image. image ≡ self.new) }
+        ensures leaves { Leaves (still_state self.old) (still_state self.new) }
 
         ensures never_fails { IsOk result }
         ensures stays { self.new ≡ self.old }
@@ -67,10 +66,7 @@ impl Readable for MemBytes {
         ensures within { IfOk result (λ n. n ≤ length buf.new) }
         ensures answer { IfOk result (λ n. ReadsAt self.old at n buf.new) }
         ensures cause { HasCause 0 0 result }
-
-        ensures told { Some self.new ≡ Some self.old }
-        ensures images { SameImages (λ image. image ≡ self.old) (λ image. image ≡ self.new) }
-        ensures time { Elapses 0 0 (λ t image. image ≡ self.old) (λ t image. image ≡ self.new) (λ image. image ≡ self.new) }
+        ensures leaves { Leaves (still_state self.old) (still_state self.new) }
 
         ensures never_fails { IsOk result }
         ensures stays { self.new ≡ self.old }

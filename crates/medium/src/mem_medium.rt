@@ -1,10 +1,11 @@
 ghost use Rattle.std.specs.Prelude.{◌≡◌, ◌↔◌, ◌≤◌, ◌+◌, ◌^◌, [], List, ℕ, Bool, Option, Some, length, option_map, is_ok, if◌then◌else◌, IfOk, IfSome, OnOk, OnErr, IsErr, IsTrue};
 ghost use Rattle.medium.specs.Count.{HasCause, counted};
 ghost use Rattle.medium.specs.Bytes.{ReadsAt, written, BecomesTold};
+ghost use Rattle.medium.specs.States.{Leaves};
 ghost use Rattle.medium.specs.Crash.{Torn, Follows, SameImages, Only, Elapses};
 ghost use Rattle.medium.specs.History.{pending, bytes_synced, Keeps};
 ghost use Rattle.medium.specs.Laws.{told_image, image_counts, only_now_image};
-ghost use Rattle.medium.specs.Memory.{IsPlanned, WriteFails, IsPastLimits, IsWithinLimits, bytes_of, images_of, moment_of, since_of, looked, refused, wrote, made_sure};
+ghost use Rattle.medium.specs.Memory.{IsPlanned, WriteFails, IsPastLimits, IsWithinLimits, bytes_of, images_of, moment_of, since_of, state_of, looked, refused, wrote, made_sure};
 
 use crate::call_count::CallCount;
 use crate::mem_bytes::read_bytes;
@@ -184,11 +185,7 @@ impl Readable for MemMedium {
     fn len(&mut self) -> Result<u64, Failed>
         ensures answer { IfOk result (λ n. n ≡ length (bytes_of self.old)) }
         ensures cause { HasCause self.old.count.faults self.new.count.faults result }
-
-        ensures told { Some (bytes_of self.new) ≡ Some (bytes_of self.old) }
-        ensures syncs { self.new.syncs ≡ self.old.syncs }
-        ensures images { SameImages (images_of self.old) (images_of self.new) }
-        ensures time { Elapses (moment_of self.old) (moment_of self.new) (since_of self.old) (since_of self.new) (images_of self.new) }
+        ensures leaves { Leaves (state_of self.old) (state_of self.new) }
 
         ensures planned { IsErr result ↔ IsPlanned self.old.count }
         ensures ok { OnOk result (self.new ≡ looked self.old) }
@@ -207,11 +204,7 @@ impl Readable for MemMedium {
         ensures within { IfOk result (λ n. n ≤ length buf.new) }
         ensures answer { IfOk result (λ n. ReadsAt (bytes_of self.old) at n buf.new) }
         ensures cause { HasCause self.old.count.faults self.new.count.faults result }
-
-        ensures told { Some (bytes_of self.new) ≡ Some (bytes_of self.old) }
-        ensures syncs { self.new.syncs ≡ self.old.syncs }
-        ensures images { SameImages (images_of self.old) (images_of self.new) }
-        ensures time { Elapses (moment_of self.old) (moment_of self.new) (since_of self.old) (since_of self.new) (images_of self.new) }
+        ensures leaves { Leaves (state_of self.old) (state_of self.new) }
 
         ensures planned { IsErr result ↔ IsPlanned self.old.count }
         ensures ok { OnOk result (self.new ≡ looked self.old) }

@@ -1,7 +1,7 @@
 ghost use Rattle.std.specs.Prelude.{◌≡◌, ◌≤◌, ◌+◌, ◌^◌, List, ℕ, Option, Some, length, IfOk, IfSome};
 ghost use Rattle.medium.specs.Count.{HasCause};
-ghost use Rattle.medium.specs.Crash.{SameImages, Elapses};
 ghost use Rattle.medium.specs.Bytes.{ReadsAt};
+ghost use Rattle.medium.specs.States.{Leaves, file_by};
 
 use crate::Failed;
 
@@ -29,11 +29,8 @@ pub trait Readable {
     fn len(&mut self) -> Result<u64, Failed>
         ensures answer { IfOk result (λ n. IfSome (told self.old) (λ bytes. n ≡ length bytes)) }
         ensures cause { HasCause (faults self.old) (faults self.new) result }
-
-        ensures told { told self.new ≡ told self.old }
-        ensures syncs { syncs self.new ≡ syncs self.old }
-        ensures images { SameImages (may_leave self.old) (may_leave self.new) }
-        ensures time { Elapses (moment self.old) (moment self.new) (left_since self.old) (left_since self.new) (may_leave self.new) };
+        ensures leaves { Leaves (file_by told faults syncs may_leave moment left_since self.old)
+            (file_by told faults syncs may_leave moment left_since self.new) };
 
     /// Puts the bytes from a place on into the front of the buffer, and answers how many: fewer than the
     /// buffer holds only where the file ends there.
@@ -42,11 +39,8 @@ pub trait Readable {
         ensures within { IfOk result (λ n. n ≤ length buf.new) }
         ensures answer { IfOk result (λ n. IfSome (told self.old) (λ bytes. ReadsAt bytes at n buf.new)) }
         ensures cause { HasCause (faults self.old) (faults self.new) result }
-
-        ensures told { told self.new ≡ told self.old }
-        ensures syncs { syncs self.new ≡ syncs self.old }
-        ensures images { SameImages (may_leave self.old) (may_leave self.new) }
-        ensures time { Elapses (moment self.old) (moment self.new) (left_since self.old) (left_since self.new) (may_leave self.new) };
+        ensures leaves { Leaves (file_by told faults syncs may_leave moment left_since self.old)
+            (file_by told faults syncs may_leave moment left_since self.new) };
 
     /// The bytes, where told, are an image.
     ghost told_is_image: { (file : Self) (bytes : List ℕ) → told file ≡ Some bytes → may_leave file bytes };
