@@ -3,7 +3,7 @@ use Rattle.std.proofs.Common.{◌≡◌, ℕ, ◌+◌, ◌-◌, ◌<◌, ◌≤�
 use Rattle.std.proofs.lemmas.List.{get_or-drop, get_or-take, take_more, length-drop}
 use Rattle.std.proofs.lemmas.Grind.{take_at_read}
 use Rattle.std.proofs.lemmas.Bool.Decides.{eqb_tells}
-use Rattle.mig_stream.specs.Pieces.{IsFront, IsCompared, IsOther, note}
+use Rattle.mig_stream.specs.Turns.{IsFront, IsCompared, IsOther, note}
 
 -- before the first byte
 pub compared_none : (told : Option (List ℕ)) (at : ℕ) (text : List ℕ) → IfSome told (λ file. IsCompared file at 0 text None)

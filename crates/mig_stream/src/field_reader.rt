@@ -1,7 +1,9 @@
 ghost use Rattle.std.specs.Prelude.{◌≡◌, ℕ, List, ◌⊎◌, ◌≤◌, ◌<◌, ◌+◌, ◌-◌, ◌^◌, Ok, Err, length, take, drop, is_ok, if◌then◌else◌, IsErr, IfOk, IfSome};
 ghost use Rattle.medium.specs.Count.{HasCause, HasRisen};
-ghost use Rattle.medium.specs.Crash.{SameImages, Elapses};
-ghost use Rattle.mig_stream.specs.Pieces.{Has, IsFront, EndsIn, IsOther, IsCompared, Finds, Expects, note};
+ghost use Rattle.medium.specs.States.{Leaves};
+ghost use Rattle.medium.specs.Members.{file_state};
+ghost use Rattle.mig_stream.specs.Pieces.{piece_in, text_in, ReadsPiece, ReadsText};
+ghost use Rattle.mig_stream.specs.Turns.{IsFront, EndsIn, IsOther, IsCompared, Finds, note};
 ghost use Rattle.mig_stream.specs.declared.text_fault.TextFault.TheVariants.{Field, Differs};
 ghost use Rattle.mig_stream.specs.declared.field_fault.FieldFault.TheVariants.{Truncated, ReadFault};
 
@@ -49,18 +51,12 @@ impl<'a, M: Readable> FieldReader<'a, M> {
     /// Reads the next piece whole, which is as long as the buffer. After an error the place is as before.
     pub fn take(&mut self, buf: &mut [u8]) -> Result<(), FieldFault>
         requires { self.old.at + length buf.old ≤ 2 ^ 40 }
-        ensures whole { IfOk result (λ _. IfSome (M.told self.old.medium.now) (λ file. Has file self.old.at buf.new)) }
-        ensures faults { IsErr result → (result ≡ Err (Truncated self.old.at)) ⊎ (result ≡ Err ReadFault) }
-        ensures truncated { result ≡ Err (Truncated self.old.at) → IfSome (M.told self.old.medium.now) (λ file. EndsIn file self.old.at (length buf.old)) }
-        ensures cut { IfSome (M.told self.old.medium.now) (λ file. EndsIn file self.old.at (length buf.old) → IsErr result) }
+        ensures answer { IfSome (M.told self.old.medium.now) (λ file. ReadsPiece (piece_in file self.old.at (length buf.old)) buf.new result) }
+        ensures start { (p : ℕ) → result ≡ Err (Truncated p) → p ≡ self.old.at }
         ensures read_fault { result ≡ Err ReadFault → HasRisen (M.faults self.old.medium.now) (M.faults self.new.medium.now) }
-        ensures never_falls { M.faults self.old.medium.now ≤ M.faults self.new.medium.now }
         ensures at { self.new.at ≡ (if is_ok result then self.old.at + length buf.old else self.old.at) }
         ensures same_medium { self.new.medium.ghost_name ≡ self.old.medium.ghost_name }
-        ensures told { M.told self.new.medium.now ≡ M.told self.old.medium.now }
-        ensures syncs { M.syncs self.new.medium.now ≡ M.syncs self.old.medium.now }
-        ensures images { SameImages (M.may_leave self.old.medium.now) (M.may_leave self.new.medium.now) }
-        ensures time { Elapses (M.moment self.old.medium.now) (M.moment self.new.medium.now) (M.left_since self.old.medium.now) (M.left_since self.new.medium.now) (M.may_leave self.new.medium.now) }
+        ensures leaves { Leaves (file_state M.Readable self.old.medium.now) (file_state M.Readable self.new.medium.now) }
     {
         let len = buf.len();
         match read_front(self.medium, self.at, buf) {
@@ -75,21 +71,16 @@ impl<'a, M: Readable> FieldReader<'a, M> {
 
     /// Reads the next piece whole, which is as long as the text, and compares it with the text. After an
     /// error the place is as before.
+    #[tactic(auto, using(crate::proofs::Same::told_same, crate::proofs::Same::told_differs))]
     pub fn expect(&mut self, text: &[u8]) -> Result<(), TextFault>
         requires { self.old.at + length text.now ≤ 2 ^ 40 }
-        ensures answer { IfSome (M.told self.old.medium.now) (λ file. Expects file self.old.at text.now result) }
+        ensures answer { IfSome (M.told self.old.medium.now) (λ file. ReadsText (text_in file self.old.at text.now) result) }
         ensures differs { (p found : ℕ) → result ≡ Err (Differs p found) → (self.old.at ≤ p) × IsOther text.now (p - self.old.at) found }
         ensures start { (p : ℕ) → result ≡ Err (Field (Truncated p)) → p ≡ self.old.at }
-        ensures cut { IfSome (M.told self.old.medium.now) (λ file. EndsIn file self.old.at (length text.now) → (result ≡ Err (Field (Truncated self.old.at))) ⊎ (result ≡ Err (Field ReadFault))) }
-        ensures same { IfSome (M.told self.old.medium.now) (λ file. Has file self.old.at text.now → (result ≡ Ok tt) ⊎ (result ≡ Err (Field ReadFault))) }
         ensures read_fault { result ≡ Err (Field ReadFault) → HasRisen (M.faults self.old.medium.now) (M.faults self.new.medium.now) }
-        ensures never_falls { M.faults self.old.medium.now ≤ M.faults self.new.medium.now }
         ensures at { self.new.at ≡ (if is_ok result then self.old.at + length text.now else self.old.at) }
         ensures same_medium { self.new.medium.ghost_name ≡ self.old.medium.ghost_name }
-        ensures told { M.told self.new.medium.now ≡ M.told self.old.medium.now }
-        ensures syncs { M.syncs self.new.medium.now ≡ M.syncs self.old.medium.now }
-        ensures images { SameImages (M.may_leave self.old.medium.now) (M.may_leave self.new.medium.now) }
-        ensures time { Elapses (M.moment self.old.medium.now) (M.moment self.new.medium.now) (M.left_since self.old.medium.now) (M.left_since self.new.medium.now) (M.may_leave self.new.medium.now) }
+        ensures leaves { Leaves (file_state M.Readable self.old.medium.now) (file_state M.Readable self.new.medium.now) }
     {
         match first_difference(self.medium, self.at, text) {
             Err(fault) => Err(TextFault::Field(fault)),
@@ -106,7 +97,7 @@ impl<'a, M: Readable> FieldReader<'a, M> {
 }
 
 // Where the bytes from a place on first differ from the text, and what stands there.
-#[tactic(auto, using(crate::proofs::Fronts::images_on, crate::proofs::Fronts::images_stay, crate::proofs::Fronts::time_stays, crate::proofs::Fronts::time_goes_on, crate::proofs::Texts::compared_none))]
+#[tactic(auto, using(medium::proofs::Leaves::leaves_same, medium::proofs::Leaves::leaves_on, crate::proofs::Texts::compared_none))]
 fn first_difference<M: Readable>(
     medium: &mut M,
     at: u64,
@@ -117,11 +108,7 @@ fn first_difference<M: Readable>(
     ensures answer { IfSome (M.told medium.old) (λ file. Finds file at text.now result) }
     ensures start { (p : ℕ) → result ≡ Err (Truncated p) → p ≡ at }
     ensures read_fault { result ≡ Err ReadFault → HasRisen (M.faults medium.old) (M.faults medium.new) }
-    ensures never_falls { M.faults medium.old ≤ M.faults medium.new }
-    ensures told { M.told medium.new ≡ M.told medium.old }
-    ensures syncs { M.syncs medium.new ≡ M.syncs medium.old }
-    ensures images { SameImages (M.may_leave medium.old) (M.may_leave medium.new) }
-    ensures time { Elapses (M.moment medium.old) (M.moment medium.new) (M.left_since medium.old) (M.left_since medium.new) (M.may_leave medium.new) }
+    ensures leaves { Leaves (file_state M.Readable medium.old) (file_state M.Readable medium.new) }
 {
     let mut buf = [0; TURN];
     let mut first = None;
@@ -169,17 +156,14 @@ fn noted(first: Option<(usize, u8)>, text: &[u8], i: usize, found: u8) -> Option
 }
 
 // Reads into the buffer until it is full or the file ends, and answers how many bytes it has then.
-#[tactic(auto, using(crate::proofs::Fronts::images_on, crate::proofs::Fronts::images_stay, crate::proofs::Fronts::time_stays, crate::proofs::Fronts::time_goes_on, crate::proofs::Fronts::front_none))]
+#[tactic(auto, using(medium::proofs::Leaves::leaves_same, medium::proofs::Leaves::leaves_on, crate::proofs::Fronts::front_none))]
 fn read_front<M: Readable>(medium: &mut M, at: u64, buf: &mut [u8]) -> Result<usize, Failed>
     requires { at + length buf.old ≤ 2 ^ 40 }
     ensures within { IfOk result (λ n. n ≤ length buf.new) }
     ensures front { IfOk result (λ n. IfSome (M.told medium.old) (λ file. IsFront file at n buf.new)) }
     ensures end { IfOk result (λ n. n < length buf.new → IfSome (M.told medium.old) (λ file. EndsIn file at (length buf.new))) }
     ensures cause { HasCause (M.faults medium.old) (M.faults medium.new) result }
-    ensures told { M.told medium.new ≡ M.told medium.old }
-    ensures syncs { M.syncs medium.new ≡ M.syncs medium.old }
-    ensures images { SameImages (M.may_leave medium.old) (M.may_leave medium.new) }
-    ensures time { Elapses (M.moment medium.old) (M.moment medium.new) (M.left_since medium.old) (M.left_since medium.new) (M.may_leave medium.new) }
+    ensures leaves { Leaves (file_state M.Readable medium.old) (file_state M.Readable medium.new) }
 {
     let mut got = 0;
     while got < buf.len() {
@@ -207,10 +191,7 @@ fn read_on<M: Readable>(
     ensures front { IfOk result (λ n. IfSome (M.told medium.old) (λ file. IsFront file at n buf.new)) }
     ensures end { IfOk result (λ n. n ≡ got → IfSome (M.told medium.old) (λ file. EndsIn file at (length buf.new))) }
     ensures cause { HasCause (M.faults medium.old) (M.faults medium.new) result }
-    ensures told { M.told medium.new ≡ M.told medium.old }
-    ensures syncs { M.syncs medium.new ≡ M.syncs medium.old }
-    ensures images { SameImages (M.may_leave medium.old) (M.may_leave medium.new) }
-    ensures time { Elapses (M.moment medium.old) (M.moment medium.new) (M.left_since medium.old) (M.left_since medium.new) (M.may_leave medium.new) }
+    ensures leaves { Leaves (file_state M.Readable medium.old) (file_state M.Readable medium.new) }
 {
     let n = medium.read_at(at + got as u64, &mut buf[got..])?;
     Ok(got + n)

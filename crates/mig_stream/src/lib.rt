@@ -11,7 +11,7 @@ mod text_fault;
 
 pub use field_fault::FieldFault;
 pub use field_reader::FieldReader;
-pub use get::{get_be32, get_be64};
+pub use get::{be32_at, be64_at, get_be32, get_be64};
 pub use put::{END, EOF, FOOTER, FULL, START, put_be32, put_be64, put_footer, put_part, put_start};
 pub use text_fault::TextFault;
 

@@ -73,7 +73,17 @@ fn a_section_header_has_its_bytes(rt: HostRuntime) -> Result<(), Fail> {
         0, 0, 2, 0x51, 0x45, 0x56, 0x4d, 0, 0, 0, 0, 0, 0, 0x10, 0x04,
     ];
     assert_eq!(rt; out.as_slice(), text.as_slice());
+    assert_eq!(rt; (START, EOF), (0x01, 0x00));
     Ok(())
+}
+
+#[test]
+fn a_number_stands_at_a_place(rt: HostRuntime) {
+    let bytes = [9, 0x51, 0x45, 0x56, 0x4d, 1, 2, 3, 4, 9];
+    assert_eq!(rt; be32_at(&bytes, 1), 0x5145_564d);
+    assert_eq!(rt; be32_at(&bytes, 6), 0x0203_0409);
+    assert_eq!(rt; be64_at(&bytes, 1), 0x5145_564d_0102_0304);
+    assert_eq!(rt; be64_at(&bytes, 2), 0x4556_4d01_0203_0409);
 }
 
 // A piece of three bytes, or none where it could not be read, and where the next piece begins.

@@ -1,5 +1,5 @@
 use Rattle.std.proofs.Common.{ℕ, ◌+◌, List, length, IfSome}
-use Rattle.mig_stream.specs.Pieces.{IsFront, IsCompared, IsOther}
+use Rattle.mig_stream.specs.Turns.{IsFront, IsCompared, IsOther}
 use Rattle.mig_stream.proofs.field_reader.compared.Given as goal
 
 abbrev pub invariant-loop-k : goal.invariant-loop-k

@@ -1,16 +1,12 @@
-use Rattle.std.proofs.Common.{rules, ◌∙◌}
-use Rattle.mig_stream.proofs.Fronts.{images_on, time_goes_on}
+use Rattle.std.proofs.Common.{rules}
+use Rattle.medium.proofs.Leaves.{leaves_on}
 use Rattle.mig_stream.proofs.Texts.{compared_part}
 use Rattle.mig_stream.proofs.field_reader.first_difference.Goals as goal
 
 pub loop-i-preserved : goal.loop-i-preserved
 loop-i-preserved g c = (
   search rules,
-  compared_part _ _ c.args.at c.loop-i.i c.in-Ok.got _ c.args.text.now c.read_front.new.buf c.loop-i.first c.compared-first.result c.read_front.ensures.told (search rules) (search rules) c.compared-first.ensures.each c.in-Ok.ensures.front c.loop-i.invariant.1,
+  compared_part _ _ c.args.at c.loop-i.i c.in-Ok.got _ c.args.text.now c.read_front.new.buf c.loop-i.first c.compared-first.result c.read_front.ensures.leaves.told (search rules) (search rules) c.compared-first.ensures.each c.in-Ok.ensures.front c.loop-i.invariant.1,
   c.compared-first.ensures.differs c.loop-i.invariant.2,
-  c.read_front.ensures.told ∙ c.loop-i.invariant.3,
-  c.read_front.ensures.syncs ∙ c.loop-i.invariant.4,
-  search rules,
-  images_on c.loop-i.invariant.6 c.read_front.ensures.images,
-  time_goes_on c.loop-i.invariant.7 c.read_front.ensures.images c.read_front.ensures.time,
+  leaves_on c.loop-i.invariant.3 c.read_front.ensures.leaves,
 )
