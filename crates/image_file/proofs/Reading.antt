@@ -5,13 +5,13 @@ use Rattle.std.proofs.lemmas.List.{length-take, length-drop, take_all, drop_all,
 use Rattle.std.proofs.Math.Seq.{take-add}
 use Rattle.medium.specs.Bytes.{TakesFrom}
 use Rattle.image_file.specs.declared.image_refusal.ImageRefusal.TheVariants.{TooLong}
-use Rattle.image_file.specs.Image.{behind, raw_of, Moves, MovesBytes, ReadsOn}
+use Rattle.image_file.specs.Image.{behind, raw_of, Moves, MovesBytes, LeavesBehind}
 
 -- nothing was read
-pub reads_none : (most : ℕ) (left : Option (List ℕ)) → ReadsOn most left left
+pub reads_none : (most : ℕ) (left : Option (List ℕ)) → LeavesBehind most left left
 unfolding behind
 reads_none most (Some old) = (0, omega arith, refl)
-reads_none most None = tt
+reads_none most None = refl
 
 -- one answer of a source, without its buffer
 pub took : (left next : Option (List ℕ)) (n : ℕ) (buf all after : List ℕ) → 0 < length buf → TakesFrom left next n buf → after ≡ all ++ take n buf → Moves left next n all after
@@ -22,13 +22,13 @@ took (Some old) next n buf all after some takes is = record {
   rest = takes.rest;
   end = takes.end some;
 }
-took None next n buf all after some takes is = tt
+took None next n buf all after some takes is = takes
 
 -- one answer of a source reads on
-pub took_on : (most : ℕ) (left next : Option (List ℕ)) (n : ℕ) (buf : List ℕ) → n ≤ most → TakesFrom left next n buf → ReadsOn most left next
+pub took_on : (most : ℕ) (left next : Option (List ℕ)) (n : ℕ) (buf : List ℕ) → n ≤ most → TakesFrom left next n buf → LeavesBehind most left next
 unfolding behind
 took_on most (Some old) next n buf le takes = (n, le, takes.rest)
-took_on most None next n buf le takes = tt
+took_on most None next n buf le takes = takes
 
 -- the bytes of all stood in the front of what was left, and what is left stands behind them
 pub record IsRead (old : List ℕ) (now : Option (List ℕ)) (all : List ℕ) : Type 0 where
@@ -36,10 +36,10 @@ pub record IsRead (old : List ℕ) (now : Option (List ℕ)) (all : List ℕ) : 
   pub front : all ≡ take (length all) old
   pub within : length all ≤ length old
 
--- the same, where the bytes are told
+-- the same, where the bytes are told; a source that tells none goes on telling none
 abbrev pub HasRead : Option (List ℕ) → Option (List ℕ) → List ℕ → Type 0
 HasRead (Some old) now all = IsRead old now all
-HasRead None now all = Unit {0}
+HasRead None now all = now ≡ None
 
 -- before the first piece
 pub read_none : (left : Option (List ℕ)) (all : List ℕ) → all ≡ [] → HasRead left left all
@@ -49,7 +49,7 @@ read_none (Some old) all is = let none : length all ≡ 0 = ap length is in reco
   front = is ∙ ap (λ (k : ℕ). take k old) (sym none);
   within = omega arith;
 }
-read_none None all is = tt
+read_none None all is = refl
 
 -- one piece more
 pub read_more : (left now next : Option (List ℕ)) (all after : List ℕ) (n : ℕ) → HasRead left now all → Moves now next n all after → HasRead left next after
@@ -63,15 +63,15 @@ read_more (Some old) now next all after n read moves =
       front = step.moved ∙ ap (λ (l : List ℕ). l ++ take n rest) read.front ∙ sym (take-add (length all) n old) ∙ ap (λ (k : ℕ). take k old) (sym longer);
       within = omega (arith, length-drop (length all) old, step.within, read.within);
     }
-read_more None now next all after n read moves = tt
+read_more None now next all after n read moves = subst (λ (o : Option (List ℕ)). Moves o next n all after) read moves
 
 -- a source that was read so far is read on
-pub reads_on : (most room : ℕ) (left now next : Option (List ℕ)) (all : List ℕ) → length all + room ≤ most → HasRead left now all → ReadsOn room now next → ReadsOn most left next
+pub reads_on : (most room : ℕ) (left now next : Option (List ℕ)) (all : List ℕ) → length all + room ≤ most → HasRead left now all → LeavesBehind room now next → LeavesBehind most left next
 unfolding behind
 reads_on most room (Some old) now next all le read on =
-    let more : ReadsOn room (Some (drop (length all) old)) next = subst (λ (o : Option (List ℕ)). ReadsOn room o next) read.rest on in
+    let more : LeavesBehind room (Some (drop (length all) old)) next = subst (λ (o : Option (List ℕ)). LeavesBehind room o next) read.rest on in
     (length all + more.0, omega (arith, more.1), more.2 ∙ ap Some (drop-drop more.0 (length all) old))
-reads_on most room None now next all le read on = tt
+reads_on most room None now next all le read on = subst (λ (o : Option (List ℕ)). LeavesBehind room o next) read on
 
 -- the source has ended, within the limit
 pub record IsWhole (limit : ℕ) (bytes : List ℕ) (next : Option (List ℕ)) (all : List ℕ) : Type 0 where

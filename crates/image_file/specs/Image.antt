@@ -3,6 +3,7 @@
 use Rattle.std.specs.Prelude.{◌≡◌, ℕ, ◌+◌, ◌≤◌, List, [], ◌∷◌, ◌++◌, length, take, drop, Option, Some, None, Result, Ok, Err, if◌then◌else◌, nat_lt, nat_eq}
 use Rattle.std.specs.List.{starts_with}
 use Rattle.ram_block.specs.Shape.{ShapeData, ram_bytes_of}
+use Rattle.medium.specs.States.{SourceState}
 use Rattle.image_file.specs.declared.raw.TheConstants.{MOST_IMAGE}
 use Rattle.image_file.specs.declared.image.TheConstants.{ELF_MAGIC}
 use Rattle.image_file.specs.declared.image_refusal.ImageRefusal.{ImageRefusal}
@@ -65,10 +66,10 @@ pub record MovesBytes (old : List ℕ) (new : Option (List ℕ)) (n : ℕ) (befo
   pub rest : new ≡ Some (behind n old)
   pub end : n ≡ 0 → old ≡ []
 
--- the same, where the bytes are told
+-- the same, where the bytes are told; a source that tells none goes on telling none
 abbrev pub Moves : Option (List ℕ) → Option (List ℕ) → ℕ → List ℕ → List ℕ → Type 0
 Moves (Some old) new n before after = MovesBytes old new n before after
-Moves None new n before after = Unit {0}
+Moves None new n before after = new ≡ None
 
 -- the call came to the end of the bytes, or to its limit
 abbrev pub IsReadToEnd : {X : Type 0} → Result X ImageFault → Type 0
@@ -77,7 +78,13 @@ IsReadToEnd (Err (Refused r)) = Unit {0}
 IsReadToEnd (Err ReadFault) = ⊥
 IsReadToEnd (Err NoMemory) = ⊥
 
--- some of the first bytes that were left were read, and no more of them than this
-abbrev pub ReadsOn : ℕ → Option (List ℕ) → Option (List ℕ) → Type 0
-ReadsOn most (Some old) new = (n : ℕ) × (n ≤ most) × (new ≡ Some (behind n old))
-ReadsOn most None new = Unit {0}
+-- some of the first bytes that were left were read, and no more of them than this; a source that tells none goes on
+-- telling none
+abbrev pub LeavesBehind : ℕ → Option (List ℕ) → Option (List ℕ) → Type 0
+LeavesBehind most (Some old) new = (n : ℕ) × (n ≤ most) × (new ≡ Some (behind n old))
+LeavesBehind most None new = new ≡ None
+
+-- what a call that reads at most so many bytes leaves of its source
+pub record ReadsOn (most : ℕ) (old new : SourceState) : Type 0 where
+  pub left : LeavesBehind most old.left new.left
+  pub never_falls : old.faults ≤ new.faults

@@ -1,5 +1,6 @@
 ghost use Rattle.std.specs.Prelude.{◌≡◌, ◌≤◌, ◌+◌, ℕ, List, [], Some, vec_len, IfOk, IfErr, IsOk};
 ghost use Rattle.medium.specs.Count.{HasRisen};
+ghost use Rattle.medium.specs.Members.{source_state};
 ghost use Rattle.ram_block.specs.Shape.{ram_bytes_of};
 ghost use Rattle.image_file.specs.Image.{image_of, image_within, Answers, behind, ReadsOn, IsReadToEnd, IsNoReadFault};
 ghost use Rattle.image_file.specs.declared.image_fault.ImageFault.TheVariants.{ReadFault as read_fault};
@@ -24,12 +25,11 @@ pub fn read_image<S: Source>(
     ensures answer { (bytes : List ℕ) → S.left source.old ≡ Some bytes → Answers (λ image. image.items) (image_of bytes shape.now) result }
     ensures fits { IfOk result (λ image. vec_len image ≤ ram_bytes_of shape.now) }
 
-    ensures read { ReadsOn (MOST_IMAGE + 1) (S.left source.old) (S.left source.new) }
+    ensures read { ReadsOn (MOST_IMAGE + 1) (source_state S.Source source.old) (source_state S.Source source.new) }
     ensures read_to_end { IsReadToEnd result → (bytes : List ℕ) → S.left source.old ≡ Some bytes → S.left source.new ≡ Some (behind (MOST_IMAGE + 1) bytes) }
     ensures whole { IsOk result → (bytes : List ℕ) → S.left source.old ≡ Some bytes → S.left source.new ≡ Some [] }
 
     ensures fault { result ≡ Err read_fault → HasRisen (S.faults source.old) (S.faults source.new) }
-    ensures count { S.faults source.old ≤ S.faults source.new }
 {
     let file = read_raw(alloc, source, MOST_IMAGE)?;
     image_in(alloc, file, shape)

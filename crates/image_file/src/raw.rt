@@ -1,5 +1,6 @@
 ghost use Rattle.std.specs.Prelude.{◌≡◌, ◌<◌, ◌≤◌, ◌+◌, ℕ, List, [], Some, length, vec_len, IfOk, IfErr, IsOk};
 ghost use Rattle.medium.specs.Count.{HasRisen};
+ghost use Rattle.medium.specs.Members.{source_state};
 ghost use Rattle.image_file.specs.Image.{raw_of, Answers, behind, RefusesOnly, RefusesNothing, Moves, ReadsOn, IsReadToEnd};
 ghost use Rattle.image_file.specs.declared.image_fault.ImageFault.TheVariants.{ReadFault as read_fault};
 
@@ -20,12 +21,11 @@ pub fn read_raw<S: Source>(alloc: Global, source: &mut S, limit: u32) -> Result<
     ensures within { IfOk result (λ all. vec_len all ≤ limit) }
     ensures refused { IfErr result (λ e. RefusesOnly (ImageRefusal.TooLong (limit + 1)) e) }
 
-    ensures read { ReadsOn (limit + 1) (S.left source.old) (S.left source.new) }
+    ensures read { ReadsOn (limit + 1) (source_state S.Source source.old) (source_state S.Source source.new) }
     ensures read_to_end { IsReadToEnd result → (bytes : List ℕ) → S.left source.old ≡ Some bytes → S.left source.new ≡ Some (behind (limit + 1) bytes) }
     ensures whole { IsOk result → (bytes : List ℕ) → S.left source.old ≡ Some bytes → S.left source.new ≡ Some [] }
 
     ensures fault { result ≡ Err read_fault → HasRisen (S.faults source.old) (S.faults source.new) }
-    ensures count { S.faults source.old ≤ S.faults source.new }
 {
     let most = limit as usize + 1;
     let mut piece = zeros(alloc, PIECE)?;
@@ -51,9 +51,8 @@ fn next_piece<S: Source>(
     ensures len { IfOk result (λ n. vec_len all.new ≡ vec_len all.old + n) }
     ensures refused { IfErr result RefusesNothing }
 
-    ensures read { ReadsOn (length piece.old) (S.left source.old) (S.left source.new) }
+    ensures read { ReadsOn (length piece.old) (source_state S.Source source.old) (source_state S.Source source.new) }
     ensures fault { result ≡ Err read_fault → HasRisen (S.faults source.old) (S.faults source.new) }
-    ensures count { S.faults source.old ≤ S.faults source.new }
 {
     let Ok(n) = source.read(piece) else {
         return Err(ImageFault::ReadFault);
