@@ -8,6 +8,7 @@ use Rattle.image_file.specs.declared.image_refusal.ImageRefusal.TheVariants.{Elf
 use Rattle.image_file.specs.declared.elf_kind.ElfKind.TheVariants.{Table}
 use Rattle.image_file.specs.declared.program_header.ProgramHeader.{ProgramHeader}
 use Rattle.image_file.specs.Elf.{header_place, program_header, is_placed, lies_in, segment_fault, header_fault, table_fault, reach_of, image_len, e_phnum, file_header_fault, memory, elf_of, IsSoundHeader}
+use Rattle.ram_block.specs.declared.limits.TheConstants.{MAX_RAM}
 
 -- the fault of a test that doesn't come
 not_taken : {A : Type 0} (b : Bool) (x : A) (rest : Option A) → (if b then Some x else rest) ≡ None → (b ≡ false) × (rest ≡ None)
@@ -46,7 +47,7 @@ faultless file ram at h placed none =
     record { sizes = grind (arith, nat_tests, sizes.0); range = grind (arith, nat_tests, range.0); place = and_not _ _ placed place.0 }
 
 -- a program header without a fault is sound
-pub sound_header : (file : List ℕ) (ram j : ℕ) → ram ≤ 2 ^ 26 → header_fault file ram j ≡ None → IsSoundHeader file j
+pub sound_header : (file : List ℕ) (ram j : ℕ) → ram ≤ MAX_RAM → header_fault file ram j ≡ None → IsSoundHeader file j
 unfolding header_fault
 sound_header file ram j small none =
     let tests = not_taken (nat_lt (length file) (header_place file j + 56)) (Elf Table 32) (segment_fault file ram (header_place file j) (program_header file j)) none in

@@ -3,6 +3,7 @@ ghost use Rattle.std.specs.Result.{result_err};
 ghost use Rattle.ram_block.specs.Shape.{ram_bytes_of};
 ghost use Rattle.image_file.specs.Elf.{e_phnum, file_header_fault, header_fault, table_fault, program_header, image_len, elf_of, AreSound};
 ghost use Rattle.image_file.specs.Image.{Answers, IsNoReadFault};
+ghost use Rattle.ram_block.specs.declared.limits.TheConstants.{MAX_RAM};
 
 use crate::overlay::place_segments;
 use crate::program_header::{PHDR_LEN, PT_LOAD, ProgramHeader, half, header_count, xword};
@@ -64,7 +65,7 @@ fn check_table(file: &[u8], shape: &Shape) -> Result<u64, ImageRefusal>
     ensures len { IfOk result (λ n. n ≡ image_len file.now (e_phnum file.now)) }
     ensures fits { IfOk result (λ n. n ≤ ram_bytes_of shape.now) }
     ensures sound { OnOk result (AreSound file.now) }
-    ensures small { ram_bytes_of shape.now ≤ 2 ^ 26 }
+    ensures small { ram_bytes_of shape.now ≤ MAX_RAM }
 {
     let ram = ram_bytes(shape);
     let mut len: u64 = 0;
@@ -78,7 +79,7 @@ fn check_table(file: &[u8], shape: &Shape) -> Result<u64, ImageRefusal>
 // The number of bytes of RAM, with its limit.
 fn ram_bytes(shape: &Shape) -> u64
     ensures value { result ≡ ram_bytes_of shape.now }
-    ensures small { result ≤ 2 ^ 26 }
+    ensures small { result ≤ MAX_RAM }
 {
     shape.ram_bytes()
 }
@@ -87,7 +88,7 @@ fn ram_bytes(shape: &Shape) -> u64
 #[tactic(auto, unfolding(crate::specs::Elf::header_fault))]
 fn check_header(file: &[u8], ram: u64, j: u16) -> Result<ProgramHeader, ImageRefusal>
     requires header { 64 ≤ length file.now }
-    requires small { ram ≤ 2 ^ 26 }
+    requires small { ram ≤ MAX_RAM }
     ensures fault { result_err result ≡ header_fault file.now ram j }
     ensures ok { IfOk result (λ h. h ≡ program_header file.now j) }
 {

@@ -1,5 +1,6 @@
 ghost use Rattle.std.specs.Prelude.{◌≡◌, ℕ, ◌+◌, ◌-◌, ◌^◌, ◌++◌, ◌<◌, ◌≤◌, true, length, vec_len, slice_index, IfOk, OnOk, if◌then◌else◌};
 ghost use Rattle.image_file.specs.Elf.{e_phnum, program_header, is_placed, covers, segment_byte, memory, AreSound, IsSoundSegment};
+ghost use Rattle.ram_block.specs.declared.limits.TheConstants.{MAX_RAM};
 
 use crate::program_header::{ProgramHeader, header_count};
 use crate::raw::{PIECE, zeros};
@@ -11,7 +12,7 @@ use std::alloc::{AllocError, Global};
 pub(crate) fn place_segments(alloc: Global, file: &[u8], len: usize) -> Result<Vec<u8>, AllocError>
     requires header { 64 ≤ length file.now }
     requires sound { AreSound file.now }
-    requires small { len ≤ 2 ^ 26 }
+    requires small { len ≤ MAX_RAM }
     ensures bytes { IfOk result (λ image. image.items ≡ memory file.now RAM_BASE len) }
     ensures len { IfOk result (λ image. vec_len image ≡ len) }
 {
@@ -28,7 +29,7 @@ pub(crate) fn place_segments(alloc: Global, file: &[u8], len: usize) -> Result<V
 fn push_piece(image: &mut Vec<u8>, piece: &mut [u8], file: &[u8]) -> Result<(), AllocError>
     requires header { 64 ≤ length file.now }
     requires sound { AreSound file.now }
-    requires small { vec_len image.old + length piece.old ≤ 2 ^ 26 }
+    requires small { vec_len image.old + length piece.old ≤ MAX_RAM }
     ensures bytes { OnOk result (image.new.items ≡ image.old.items ++ memory file.now (RAM_BASE + vec_len image.old) (length piece.old)) }
     ensures len { OnOk result (vec_len image.new ≡ vec_len image.old + length piece.old) }
 {

@@ -1,5 +1,6 @@
 ghost use Rattle.std.specs.Prelude.{◌≡◌, ◌+◌, ◌^◌, ◌<◌, ◌≤◌, length, true};
 ghost use Rattle.image_file.specs.Elf.{half_at, word_at, xword_at, e_phnum, header_place};
+ghost use Rattle.ram_block.specs.declared.limits.TheConstants.{MAX_RAM};
 
 use ram_block::RAM_BASE;
 
@@ -48,7 +49,7 @@ impl ProgramHeader {
 
     /// Whether all of its memory lies in RAM of so many bytes.
     pub(crate) fn lies_in(&self, ram: u64) -> bool
-        requires { ram ≤ 2 ^ 26 }
+        requires { ram ≤ MAX_RAM }
         ensures { result ≡ lies_in self.now ram }
     {
         let end = u128::from(self.p_paddr) + u128::from(self.p_memsz);
