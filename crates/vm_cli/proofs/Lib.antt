@@ -1,4 +1,3 @@
-pub mod Told
 pub mod Pieces
 pub mod FirstFile
 pub mod Causes

@@ -5,7 +5,8 @@ use Rattle.std.specs.List.{list_all}
 use Rattle.std.proofs.lemmas.Bool.{cases_lt, cases_Bool, le-leb, lt-leb, lt-ltb, le-ltb, eqb-true, and_from, and_parts, and_left, and_right, cond-true, cond-false}
 use Rattle.std.proofs.lemmas.List.{get_or_append_left, get_or-append_right, get_or-drop, length-drop}
 use Rattle.medium.specs.Bytes.{written}
-use Rattle.medium.proofs.Written.{written_within, written_before, written_behind, length-written}
+use Rattle.medium.specs.Laws.{length-written}
+use Rattle.medium.proofs.Writes.{written_within, written_before, written_behind}
 use Rattle.vm_cli.specs.Layout.{Piece, byte_in}
 use Rattle.vm_cli.specs.FirstSave.{with_page}
 

@@ -2,7 +2,8 @@
 use Rattle.std.proofs.Common.{arith}
 use Rattle.std.proofs.lemmas.Fmt.{decimal_digit, decimal_step}
 use Rattle.std.proofs.lemmas.Result.{on_ok_weaker, on_err_weaker}
-use Rattle.vm_cli.proofs.Fronts.{front_alone, if_failed, whole_then_front, whole_then_whole}
+use Rattle.medium.proofs.Taken.{front_alone, whole_then_front, whole_then_whole}
+use Rattle.vm_cli.proofs.Fronts.{if_failed}
 use Rattle.vm_cli.proofs.parts.+put_number.Goals as goal
 
 pub returns-then-number-lt10-clause-all : goal.returns-then-number-lt10-clause-all

@@ -2,7 +2,8 @@
 use Rattle.std.proofs.Common.{◌≡◌, List, ℕ, ◌++◌, drop, suc, sym, subst, option_map, arith}
 use Rattle.medium.specs.Bytes.{AddsFront, BecomesTold}
 use Rattle.vm_cli.specs.Parts.{part_text, parts_text}
-use Rattle.vm_cli.proofs.Fronts.{front_alone, if_failed, piece_more, piece_within, whole_then_front, whole_then_whole}
+use Rattle.medium.proofs.Taken.{front_alone, whole_then_front, whole_then_whole}
+use Rattle.vm_cli.proofs.Fronts.{if_failed, piece_more, piece_within}
 use Rattle.vm_cli.proofs.parts.put_parts.Goals as goal
 
 pub loop-part-preserved : goal.loop-part-preserved

@@ -4,7 +4,7 @@ use Rattle.std.specs.Prelude.{IfSome}
 use Rattle.medium.specs.Bytes.{written}
 use Rattle.std.proofs.lemmas.List.{nil_from_length, take_rest}
 use Rattle.vm_cli.specs.FirstSave.{laid, with_page}
-use Rattle.vm_cli.proofs.Told.{when_told, told_next, told_at}
+use Rattle.medium.proofs.Told.{when_told, told_next, told_at}
 use Rattle.vm_cli.proofs.save.write_pieces.Goals as goal
 
 pub returns-clause-ok : goal.returns-clause-ok
@@ -19,5 +19,5 @@ returns-clause-ok g c = when_told _ _ (λ before is.
           ∙ told_at (λ at. written at c.args.tail.now) _ _ _ _ _ c.tail_at.ensures.place c.in_ok-write_at-3.ensures.written
           (told_at (λ bytes. written 1 bytes) _ _ _ _ _ (take_rest c.args.head.now 1) c.in_ok-write_at-2.ensures.written
           (told_at (λ at. with_page at c.args.page.now) _ _ _ _ _ c.page_at.ensures.place c.in_ok-write_page.ensures.told
-          (c.in_ok-sync.ensures.told ∙ told_next _ _ _ _ c.in_ok-write_at.ensures.written (c.in_ok-len.ensures.told ∙ is ∙ ap Some empty))))),
+          (c.in_ok-sync.ensures.told ∙ told_next _ _ _ _ c.in_ok-write_at.ensures.written (c.in_ok-len.ensures.leaves.told ∙ is ∙ ap Some empty))))),
     ))

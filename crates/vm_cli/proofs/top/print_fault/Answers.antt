@@ -1,7 +1,7 @@
 -- What a fault prints is a front of its line.
 use Rattle.std.proofs.Common.{List, ℕ, subst}
 use Rattle.medium.specs.Bytes.{AddsFront, BecomesTold}
-use Rattle.vm_cli.proofs.Fronts.{front_of}
+use Rattle.medium.proofs.Taken.{front_of}
 use Rattle.vm_cli.proofs.top.print_fault.Goals as goal
 
 pub returns-clause-front : goal.returns-clause-front
