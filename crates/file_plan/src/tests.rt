@@ -1,5 +1,7 @@
 use super::*;
-use ram_block::Shape;
+use mapped_ram_header::{HEADER_LEN, HEADER_VERSION, PAGES_ALIGN};
+use mig_stream::{END, EOF, FOOTER, FULL, START};
+use ram_block::{PAGE, Shape};
 use std::test::Fail;
 
 #[test]
@@ -21,4 +23,14 @@ fn the_largest_file_has_its_places(rt: HostRuntime) -> Result<(), Fail> {
     assert_eq!(rt; plan.places(7).pages, 0x400_0000);
     assert_eq!(rt; plan.tail_at() + 31, 75_497_503);
     Ok(())
+}
+
+#[test]
+fn the_numbers_of_the_format_are_these(rt: HostRuntime) {
+    assert_eq!(rt; (MAGIC, STREAM_VERSION, CONFIGURATION), (0x5145_564d, 3, 7));
+    assert_eq!(rt; (RAM_SECTION, RAM_VERSION), (2, 4));
+    assert_eq!(rt; (TOTAL_FLAG, END_FLAG), (4, 16));
+    assert_eq!(rt; (FIRST_RECORD, RECORD_HEAD), (47, 13));
+    assert_eq!(rt; (START, END, FULL, FOOTER, EOF), (1, 3, 4, 0x7e, 0));
+    assert_eq!(rt; (PAGE, PAGES_ALIGN, HEADER_LEN, HEADER_VERSION), (4096, 0x10_0000, 28, 1));
 }

@@ -11,14 +11,13 @@ use Rattle.file_plan.specs.Plan.{record_place, block_places, tail_place}
 use Rattle.file_plan.proofs.Records.{record_place_first, record_place_more}
 use Rattle.mapped_ram_header.specs.Places.{bitmap_len}
 use Rattle.ram_block.specs.Page.{zero_page}
-use Rattle.ram_block.specs.Shape.{IsShape}
 use Rattle.ram_block.proofs.Pages.{length-zero_page}
-use Rattle.flat_machine.specs.Machine.{MachineData, IsSized, Rest, page_of}
+use Rattle.flat_machine.specs.Machine.{IsMachine, MachineData, Rest, page_of}
 use Rattle.flat_machine.specs.Page.{page_at}
-use Rattle.vm_cli.specs.DeviceText.{Two, device_text}
-use Rattle.vm_cli.specs.Layout.{StandsAt, page_bit, LaysPage, LaysBlock, Lay, Piece, byte_in, saved_bit, front_text, record_text, tail_text, bitmap_of, block_ram, block_pieces, pieces_from, pieces_of, last_piece, file_of}
-use Rattle.vm_cli.proofs.Bits.{byte_of, bit_of_byte}
-use Rattle.vm_cli.proofs.Pieces.{byte_here, byte_behind, zero_at}
+use Rattle.device_state.specs.DeviceText.{Two, device_text}
+use Rattle.file_plan.specs.Layout.{StandsAt, page_bit, LaysPage, Lay, LaysShape, Piece, byte_in, saved_bit, front_text, record_text, tail_text, bitmap_of, block_ram, block_pieces, pieces_from, pieces_of, last_piece, file_of}
+use Rattle.file_plan.proofs.Bits.{byte_of, bit_of_byte}
+use Rattle.file_plan.proofs.Pieces.{byte_here, byte_behind, zero_at}
 
 same : (a b : ℕ) → a ≡ b → a ≡ b
 same a b e = e
@@ -35,7 +34,7 @@ zero_page_at : (i : ℕ) → i < 4096 → get_or zero_page i 0 ≡ 0
 unfolding zero_page
 zero_page_at i lt = get_or-replicate 4096 i 0 0 lt
 
-module _ (m : MachineData) (shape : IsShape m.shape) (sized : IsSized m) where
+module _ (m : MachineData) (is : IsMachine m) where
   abbrev pages : ℕ
   pages = m.shape.pages
 
@@ -65,7 +64,7 @@ module _ (m : MachineData) (shape : IsShape m.shape) (sized : IsSized m) where
 
   -- the pages of the blocks up to this one are within the RAM
   within : (b : ℕ) → b < m.shape.blocks → 4096 * pages * b + 4096 * pages ≤ length m.ram
-  within b lt = omega (arith, mul-le (b + 1) pages m.shape.blocks pages (omega arith) (omega arith), sized.ram)
+  within b lt = omega (arith, mul-le (b + 1) pages m.shape.blocks pages (omega arith) (omega arith), is.ram)
 
   length-block_ram : (b : ℕ) → b < m.shape.blocks → length (block_ram m b) ≡ 4096 * pages
   length-block_ram b lt = omega (arith, within b lt, length-take (4096 * pages) (drop (4096 * pages * b) m.ram), length-drop (4096 * pages * b) m.ram)
@@ -235,11 +234,8 @@ module _ (m : MachineData) (shape : IsShape m.shape) (sized : IsSized m) where
     zeros = λ clear. clear_page b p lt small (sym (bit_is b p lt small) ∙ clear);
   }
 
-  lays_block : (b : ℕ) → b < m.shape.blocks → LaysBlock (file_of m) m b
-  lays_block b lt = record {
-    record_stands = stands (file_of m) (record_text m.shape b) (record_at b) (omega (arith, length-record b, length-file, block_ends b, block_fits b lt)) (λ i inside. record_byte b i lt (omega (arith, length-record b)));
-    pages = λ p small. lays_page b p lt small;
-  }
+  record_stands : (b : ℕ) → b < m.shape.blocks → StandsAt (file_of m) (record_at b) (record_text m.shape b)
+  record_stands b lt = stands (file_of m) (record_text m.shape b) (record_at b) (omega (arith, length-record b, length-file, block_ends b, block_fits b lt)) (λ i inside. record_byte b i lt (omega (arith, length-record b)))
 
   front_byte : (i : ℕ) → i < 47 → get_or (file_of m) i 0 ≡ get_or (front_text m.shape) i 0
   unfolding pieces_of
@@ -264,8 +260,9 @@ module _ (m : MachineData) (shape : IsShape m.shape) (sized : IsSized m) where
 
   pub file_of_lays : Rest m → Lay (file_of m) m
   file_of_lays rest = record {
+    machine = is;
     rest = rest;
-    front = front_stands;
-    blocks = lays_block;
+    shape = record { front = front_stands; records = record_stands };
+    pages = lays_page;
     tail = (Two, tt, tail_stands);
   }

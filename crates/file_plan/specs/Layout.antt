@@ -11,14 +11,15 @@ use Rattle.mig_stream.specs.declared.put.TheConstants.{START, END}
 use Rattle.mapped_ram_header.specs.Header.{header_bytes}
 use Rattle.mapped_ram_header.specs.Places.{bitmap_len}
 use Rattle.file_plan.specs.Plan.{record_place, block_places, tail_place}
-use Rattle.flat_machine.specs.Machine.{MachineData, Rest, page_of}
-use Rattle.vm_cli.specs.DeviceText.{SerialVersion, One, Two, device_text}
+use Rattle.flat_machine.specs.Machine.{IsMachine, MachineData, Rest, page_of}
+use Rattle.device_state.specs.DeviceText.{SerialVersion, Two, HasVersion, device_text}
+use Rattle.file_plan.specs.declared.format.TheConstants.{MAGIC, STREAM_VERSION, CONFIGURATION, RAM_SECTION, RAM_VERSION, TOTAL_FLAG, END_FLAG}
 
 -- the front of a file: magic, version, configuration, and the first header of the RAM section with its total
 unfoldable pub front_text : ShapeData → List ℕ
 front_text s =
-    be32 0x5145_564d ++ (be32 3 ++ ((7 ∷ (be32 9 ++ codes "rvsnap-64"))
-    ++ (start_text START 2 (codes "ram") 0 4 ++ be64 (ram_bytes_of s + 4))))
+    be32 MAGIC ++ (be32 STREAM_VERSION ++ ((CONFIGURATION ∷ (be32 9 ++ codes "rvsnap-64"))
+    ++ (start_text START RAM_SECTION (codes "ram") 0 RAM_VERSION ++ be64 (ram_bytes_of s + TOTAL_FLAG))))
 
 -- the record of a block: its name, its used length, and its mapped-ram header
 unfoldable pub record_text : ShapeData → ℕ → List ℕ
@@ -27,7 +28,7 @@ record_text s block =
 
 -- what stands between the pages and the device text: the end of the setup, and the end of the RAM section
 unfoldable pub tail_text : List ℕ
-tail_text = be64 0x10 ++ (footer_text 2 ++ (part_text END 2 ++ (be64 0x10 ++ footer_text 2)))
+tail_text = be64 END_FLAG ++ (footer_text RAM_SECTION ++ (part_text END RAM_SECTION ++ (be64 END_FLAG ++ footer_text RAM_SECTION)))
 
 -- these bytes stand at this place
 abbrev pub StandsAt : List ℕ → ℕ → List ℕ → Type 0
@@ -44,22 +45,18 @@ pub record LaysPage (file : List ℕ) (m : MachineData) (block p : ℕ) : Type 0
   pub zeros : page_bit file (block_places m.shape.pages block).bitmap p ≡ 0 →
       page_of m (block * m.shape.pages + p) ≡ zero_page
 
--- a block: its record and each of its pages
-pub record LaysBlock (file : List ℕ) (m : MachineData) (block : ℕ) : Type 0 where
-  pub record_stands : StandsAt file (record_place m.shape.pages block) (record_text m.shape block)
-  pub pages : (p : ℕ) → p < m.shape.pages → LaysPage file m block p
-
--- a serial section of the first version has no input
-abbrev pub HasVersion : SerialVersion → MachineData → Type 0
-HasVersion One m = m.serial.input ≡ []
-HasVersion Two m = Unit {0}
+-- what a file says of the shape alone: its front, and the record of each block
+pub record LaysShape (file : List ℕ) (shape : ShapeData) : Type 0 where
+  pub front : StandsAt file 0 (front_text shape)
+  pub records : (block : ℕ) → block < shape.blocks → StandsAt file (record_place shape.pages block) (record_text shape block)
 
 -- The file is a layout of the machine. What is not spoken of is free: bytes between a bitmap and the pages,
 -- bits past the last page, and pages whose bit is clear.
 pub record Lay (file : List ℕ) (m : MachineData) : Type 0 where
+  pub machine : IsMachine m
   pub rest : Rest m
-  pub front : StandsAt file 0 (front_text m.shape)
-  pub blocks : (block : ℕ) → block < m.shape.blocks → LaysBlock file m block
+  pub shape : LaysShape file m.shape
+  pub pages : (block p : ℕ) → block < m.shape.blocks → p < m.shape.pages → LaysPage file m block p
   pub tail : (version : SerialVersion) × HasVersion version m × (drop (tail_place m.shape) file ≡ tail_text ++ device_text version m)
 
 -- bytes with their place in a file
