@@ -6,7 +6,7 @@ use Rattle.vm_cli.specs.Answer.{EndsAtImage, EndsEarly, EndsWith, Given, HasItsC
 use Rattle.guest_asm.specs.declared.assembler.TheConstants.{MAX_TEXT}
 use Rattle.guest_asm.specs.Assemble.{IsAssembled, asm_of}
 use Rattle.image_file.specs.Image.{image_of, raw_of}
-use Rattle.vm_cli.specs.Layout.{file_of}
+use Rattle.file_plan.specs.Layout.{file_of}
 use Rattle.flat_machine.specs.Machine.{boot}
 use Rattle.vm_cli.specs.FirstSave.{one_page}
 use Rattle.std.specs.Option.{option_map_or}

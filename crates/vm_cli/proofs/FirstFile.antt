@@ -9,8 +9,8 @@ use Rattle.ram_block.specs.Shape.{ShapeData}
 use Rattle.flat_machine.specs.Machine.{MachineData, boot, page_of}
 use Rattle.flat_machine.specs.Page.{page_at as machine_page}
 use Rattle.vm_cli.specs.FirstSave.{one_page}
-use Rattle.vm_cli.specs.DeviceText.{Two, cpu_section, serial_section, timer_section, device_text}
-use Rattle.vm_cli.specs.Layout.{Piece, front_text, record_text, tail_text, bitmap_of, block_ram, byte_in, pieces_of, pieces_from, last_piece, file_of}
+use Rattle.device_state.specs.DeviceText.{Two, cpu_section, serial_section, timer_section, device_text}
+use Rattle.file_plan.specs.Layout.{Piece, front_text, record_text, tail_text, bitmap_of, block_ram, byte_in, pieces_of, pieces_from, last_piece, file_of}
 use Rattle.vm_cli.specs.FirstSave.{laid, first_head, first_bitmap}
 use Rattle.vm_cli.proofs.Pieces.{head, laid_out, whole, same_byte, length-whole}
 

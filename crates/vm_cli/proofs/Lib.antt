@@ -3,7 +3,5 @@ pub mod FirstFile
 pub mod Causes
 pub mod Statuses
 pub mod Torn
-pub mod Bits
-pub mod AnyFile
 pub mod OnePage
 pub mod Fronts

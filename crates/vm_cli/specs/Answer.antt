@@ -10,7 +10,7 @@ use Rattle.flat_machine.specs.Machine.{boot}
 use Rattle.image_file.specs.Image.{image_of, raw_of}
 use Rattle.vm_cli.specs.FaultLine.{fault_line}
 use Rattle.vm_cli.specs.FirstSave.{one_page}
-use Rattle.vm_cli.specs.Layout.{file_of}
+use Rattle.file_plan.specs.Layout.{file_of}
 use Rattle.vm_cli.specs.Parts.{AddsFronts, assembled_line}
 use Rattle.vm_cli.specs.Words.{Serves, line_fault}
 use Rattle.vm_cli.specs.declared.words.Served.{Served}

@@ -6,7 +6,7 @@ use Rattle.medium.specs.Bytes.{written}
 use Rattle.file_plan.specs.Plan.{page_place, tail_place}
 use Rattle.ram_block.specs.Shape.{ShapeData}
 use Rattle.serial_timer.specs.Serial.{SerialData}
-use Rattle.vm_cli.specs.Layout.{front_text, record_text}
+use Rattle.file_plan.specs.Layout.{front_text, record_text}
 
 -- the shape of the first save: one vCPU, one block, one page
 abbrev pub one_page : ShapeData

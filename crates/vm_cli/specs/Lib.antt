@@ -1,5 +1,3 @@
-pub mod DeviceText
-pub mod Layout
 pub mod Words
 pub mod FirstSave
 pub mod Answer

@@ -4,7 +4,7 @@ ghost use Rattle.mig_stream.specs.Text.{be64};
 ghost use Rattle.flat_machine.specs.Machine.{boot};
 ghost use Rattle.rv64i_step.specs.Vcpu.{boot_vcpu};
 ghost use Rattle.vm_cli.specs.FirstSave.{one_page, no_serial};
-ghost use Rattle.vm_cli.specs.DeviceText.{Two, cpu_section, serial_section, timer_section, device_text};
+ghost use Rattle.device_state.specs.DeviceText.{Two, cpu_section, serial_section, timer_section, device_text};
 
 use mig_stream::{EOF, FULL, put_be32, put_be64, put_footer, put_start};
 use ram_block::{NoMemory, RAM_BASE};
@@ -23,7 +23,7 @@ const RUNNING: u8 = 0;
 const FIRST_DEVICE: u32 = 3;
 
 /// Appends the device text of a machine with one vCPU at boot, without input.
-#[tactic(auto, unfolding(crate::specs::DeviceText::device_text, flat_machine::specs::Machine::boot))]
+#[tactic(auto, unfolding(device_state::specs::DeviceText::device_text, flat_machine::specs::Machine::boot))]
 pub(crate) fn put_boot_devices(out: &mut Vec<u8>) -> Result<(), NoMemory>
     ensures { OnOk result (out.new.items ≡ out.old.items ++ device_text Two (boot one_page [] [])) }
 {
@@ -35,7 +35,7 @@ pub(crate) fn put_boot_devices(out: &mut Vec<u8>) -> Result<(), NoMemory>
 }
 
 // The section of a vCPU at boot.
-#[tactic(auto, unfolding(crate::specs::DeviceText::cpu_section))]
+#[tactic(auto, unfolding(device_state::specs::DeviceText::cpu_section))]
 fn put_boot_vcpu(out: &mut Vec<u8>, number: u32) -> Result<(), NoMemory>
     requires { number < 8 }
     ensures { OnOk result (out.new.items ≡ out.old.items ++ cpu_section number (boot_vcpu number)) }
@@ -69,7 +69,7 @@ fn put_all(out: &mut Vec<u8>, numbers: &[u64]) -> Result<(), NoMemory>
 }
 
 // The section of a serial device that holds nothing.
-#[tactic(auto, unfolding(crate::specs::DeviceText::serial_section))]
+#[tactic(auto, unfolding(device_state::specs::DeviceText::serial_section))]
 fn put_boot_serial(out: &mut Vec<u8>, vcpus: u32) -> Result<(), NoMemory>
     requires { vcpus ≤ 8 }
     ensures { OnOk result (out.new.items ≡ out.old.items ++ serial_section Two vcpus no_serial) }
@@ -83,7 +83,7 @@ fn put_boot_serial(out: &mut Vec<u8>, vcpus: u32) -> Result<(), NoMemory>
 }
 
 // The section of a timer at its start.
-#[tactic(auto, unfolding(crate::specs::DeviceText::timer_section))]
+#[tactic(auto, unfolding(device_state::specs::DeviceText::timer_section))]
 fn put_boot_timer(out: &mut Vec<u8>, vcpus: u32) -> Result<(), NoMemory>
     requires { vcpus ≤ 8 }
     ensures { OnOk result (out.new.items ≡ out.old.items ++ timer_section vcpus 0 0) }

@@ -2,34 +2,19 @@ ghost use Rattle.std.specs.Prelude.{◌≡◌, ◌==◌, ◌++◌, if◌then◌e
 ghost use Rattle.std.specs.List.{list_all};
 ghost use Rattle.ram_block.specs.Shape.{ram_bytes_of};
 ghost use Rattle.vm_cli.specs.FirstSave.{one_page};
-ghost use Rattle.vm_cli.specs.Layout.{front_text, record_text, tail_text};
+ghost use Rattle.file_plan.specs.Layout.{front_text, record_text, tail_text};
 ghost use Rattle.vm_cli.specs.FirstSave.{first_head};
 
 use crate::save::is_zero;
-use file_plan::Plan;
+use file_plan::{
+    CONFIGURATION, END_FLAG, MAGIC, Plan, RAM_SECTION, RAM_VERSION, STREAM_VERSION, TOTAL_FLAG,
+};
 use mapped_ram_header::put_header;
 use mig_stream::{END, START, put_be32, put_be64, put_footer, put_part, put_start};
 use ram_block::{NoMemory, PAGE, PageBuf};
 
-// The first four bytes of a file, and the version of the stream.
-const MAGIC: u32 = 0x5145_564d;
-
-const STREAM_VERSION: u32 = 3;
-
-// The configuration: a section of its own form, with the machine's name.
-const CONFIGURATION: u8 = 0x07;
-
+// The machine's name in the configuration.
 const MACHINE_NAME: &[u8; 9] = b"rvsnap-64";
-
-// The section of the RAM, and its version.
-const RAM_SECTION: u32 = 2;
-
-const RAM_VERSION: u32 = 4;
-
-// The flags in the low bits of the total and of an end marker.
-const TOTAL_FLAG: u64 = 0x04;
-
-const END_FLAG: u64 = 0x10;
 
 /// Appends the head of the file of a machine of one block and one page: the front, the record, the bitmap.
 pub(crate) fn put_head(out: &mut Vec<u8>, plan: &Plan, page: &PageBuf) -> Result<(), NoMemory>

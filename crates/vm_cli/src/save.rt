@@ -4,7 +4,7 @@ ghost use Rattle.medium.specs.Count.{HasRisen};
 ghost use Rattle.medium.specs.Crash.{Only};
 ghost use Rattle.flat_machine.specs.Machine.{boot};
 ghost use Rattle.vm_cli.specs.FirstSave.{laid, one_page, with_page};
-ghost use Rattle.vm_cli.specs.Layout.{file_of};
+ghost use Rattle.file_plan.specs.Layout.{file_of};
 ghost use Rattle.vm_cli.specs.declared.save.SaveFault.TheVariants.{FileFault as file_fault, NotEmpty as not_empty, NoMemory as out_of_memory};
 
 use crate::device_text::put_boot_devices;

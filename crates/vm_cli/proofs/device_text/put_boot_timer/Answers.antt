@@ -1,6 +1,6 @@
 -- The texts of the section, one after another.
 use Rattle.std.proofs.Common.{append_assoc}
-use Rattle.vm_cli.specs.DeviceText.{timer_section}
+use Rattle.device_state.specs.DeviceText.{timer_section}
 use Rattle.vm_cli.proofs.device_text.put_boot_timer.Goals as goal
 
 pub returns : goal.returns

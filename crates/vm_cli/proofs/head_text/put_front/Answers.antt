@@ -1,6 +1,6 @@
 -- The texts one after another.
 use Rattle.std.proofs.Common.{append_assoc}
-use Rattle.vm_cli.specs.Layout.{front_text}
+use Rattle.file_plan.specs.Layout.{front_text}
 use Rattle.vm_cli.proofs.head_text.put_front.Goals as goal
 
 pub returns : goal.returns

@@ -3,8 +3,8 @@ use Rattle.std.proofs.Common.{◌≡◌, ℕ, List, [], ◌++◌, length, Some, 
 use Rattle.std.specs.Prelude.{OnOk, IfSome}
 use Rattle.flat_machine.specs.Machine.{boot}
 use Rattle.vm_cli.specs.FirstSave.{one_page}
-use Rattle.vm_cli.specs.Layout.{tail_text}
-use Rattle.vm_cli.specs.DeviceText.{Two, device_text}
+use Rattle.file_plan.specs.Layout.{tail_text}
+use Rattle.device_state.specs.DeviceText.{Two, device_text}
 use Rattle.vm_cli.specs.FirstSave.{first_head}
 use Rattle.vm_cli.proofs.FirstFile.{saved_file, length-first_head, length-last}
 use Rattle.vm_cli.proofs.save.save_boot.Goals as goal
