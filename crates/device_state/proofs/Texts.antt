@@ -1,5 +1,5 @@
 -- What a device text tells of its machine, section by section.
-use Rattle.std.proofs.Common.{◌≡◌, inl, inr, ℕ, ◌+◌, ◌^◌, ◌<◌, ◌≤◌, List, [], ◌∷◌, ◌++◌, length, get_or, Option, Some, None, refl, sym, ap, ◌∙◌, subst, arith, append_assoc}
+use Rattle.std.proofs.Common.{◌≡◌, ℕ, ◌+◌, ◌^◌, ◌<◌, List, [], ◌∷◌, ◌++◌, length, get_or, Some, None, refl, sym, ap, ◌∙◌, arith, append_assoc}
 use Rattle.std.specs.Prelude.{All, codes}
 use Rattle.std.specs.List.{flat_map}
 use Rattle.std.proofs.lemmas.List.{append_cancel_left, length-append}
@@ -14,7 +14,7 @@ use Rattle.rv64i_step.specs.declared.state.State.{State}
 use Rattle.rv64i_step.specs.declared.state.State.TheVariants.{Running, Halted}
 use Rattle.serial_timer.specs.Serial.{SerialData, IsSerial}
 use Rattle.flat_machine.specs.Machine.{IsMachine, MachineData, Rest}
-use Rattle.device_state.specs.DeviceText.{SerialVersion, One, Two, HasVersion, SameDevices, version_number, state_byte, cpu_section, cpu_sections, serial_section, serial_lengths, serial_bytes, timer_section, device_text}
+use Rattle.device_state.specs.DeviceText.{SerialVersion, One, Two, HasVersion, SameDevices, version_number, state_byte, cpu_section, cpu_sections, serial_section, timer_section, device_text}
 use Rattle.device_state.proofs.Split.{split, split_first, be32-same, be32_first, be64_first}
 
 -- the cause that a code stands for is the one whose code it is

@@ -9,7 +9,7 @@ use Rattle.rv64i_step.specs.declared.state.State.{State}
 use Rattle.rv64i_step.specs.declared.state.State.TheVariants.{Running, Halted}
 use Rattle.serial_timer.specs.Serial.{SerialData}
 use Rattle.flat_machine.specs.Machine.{MachineData}
-use Rattle.device_state.specs.declared.format.TheConstants.{CPU_VERSION, FIRST_DEVICE, TIMER_VERSION}
+use Rattle.device_state.specs.declared.format.TheConstants.{CPU_VERSION, FIRST_DEVICE, SERIAL_VERSION, SERIAL_VERSION_WITHOUT_INPUT, TIMER_VERSION}
 
 -- the version of a serial section: the first has no input
 pub data SerialVersion : Type 0 where
@@ -17,8 +17,8 @@ pub data SerialVersion : Type 0 where
   Two : SerialVersion
 
 abbrev pub version_number : SerialVersion → ℕ
-version_number One = 1
-version_number Two = 2
+version_number One = SERIAL_VERSION_WITHOUT_INPUT
+version_number Two = SERIAL_VERSION
 
 -- 0 for a vCPU that runs, else its cause's code
 abbrev pub state_byte : State → ℕ

@@ -6,7 +6,9 @@ mod format;
 mod laws;
 mod put;
 
-pub use format::{CPU_VERSION, FIRST_DEVICE, TIMER_VERSION};
+pub use format::{
+    CPU_VERSION, FIRST_DEVICE, SERIAL_VERSION, SERIAL_VERSION_WITHOUT_INPUT, TIMER_VERSION,
+};
 pub use laws::a_device_text_tells_its_devices;
 pub use put::put_devices;
 

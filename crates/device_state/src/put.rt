@@ -4,16 +4,13 @@ ghost use Rattle.mig_stream.specs.Text.{be64};
 ghost use Rattle.flat_machine.specs.Machine.{Rest};
 ghost use Rattle.device_state.specs.DeviceText.{Two, cpu_section, cpu_sections, device_text, serial_section, state_byte, timer_section};
 
-use crate::{CPU_VERSION, FIRST_DEVICE, TIMER_VERSION};
+use crate::{CPU_VERSION, FIRST_DEVICE, SERIAL_VERSION, TIMER_VERSION};
 use flat_machine::Machine;
 use mig_stream::{EOF, FULL, put_be32, put_be64, put_footer, put_start};
 use ram_block::NoMemory;
 use rv64i_step::{State, Vcpu};
 use serial_timer::Serial;
 use std::alloc::Global;
-
-// The version of a serial section with its input.
-const SERIAL_VERSION: u32 = 2;
 
 /// The device text of a machine at rest, with the input of its serial device and with the end of the stream.
 #[tactic(auto, unfolding(crate::specs::DeviceText::device_text))]

@@ -6,6 +6,7 @@ use std::test::Fail;
 #[test]
 fn the_numbers_of_the_device_text_are_these(rt: HostRuntime) {
     assert_eq!(rt; (FIRST_DEVICE, CPU_VERSION, TIMER_VERSION), (3, 1, 1));
+    assert_eq!(rt; (SERIAL_VERSION_WITHOUT_INPUT, SERIAL_VERSION), (1, 2));
 }
 
 #[test]
@@ -23,7 +24,10 @@ fn a_machine_at_boot_has_its_device_text(rt: HostRuntime) -> Result<(), Fail> {
         0, 2,
     ];
     assert_eq!(rt; &text[282..307], serial_head.as_slice());
-    assert_eq!(rt; &text[315..329], [0, 0, 0, 0, 0, 0, 0, 1, 7, 0x7e, 0, 0, 0, 4].as_slice());
+    assert_eq!(rt;
+        &text[315..329],
+        [0, 0, 0, 0, 0, 0, 0, 1, 7, 0x7e, 0, 0, 0, 4].as_slice()
+    );
     let timer = [
         4, 0, 0, 0, 5, 5, b't', b'i', b'm', b'e', b'r', 0, 0, 0, 0, 0, 0, 0, 1,
     ];

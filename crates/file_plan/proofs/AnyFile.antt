@@ -15,7 +15,7 @@ use Rattle.ram_block.proofs.Pages.{length-zero_page}
 use Rattle.flat_machine.specs.Machine.{IsMachine, MachineData, Rest, page_of}
 use Rattle.flat_machine.specs.Page.{page_at}
 use Rattle.device_state.specs.DeviceText.{Two, device_text}
-use Rattle.file_plan.specs.Layout.{StandsAt, page_bit, LaysPage, Lay, LaysShape, Piece, byte_in, saved_bit, front_text, record_text, tail_text, bitmap_of, block_ram, block_pieces, pieces_from, pieces_of, last_piece, file_of}
+use Rattle.file_plan.specs.Layout.{StandsAt, page_bit, LaysPage, Lay, Piece, byte_in, saved_bit, front_text, record_text, tail_text, bitmap_of, block_ram, block_pieces, pieces_from, pieces_of, last_piece, file_of}
 use Rattle.file_plan.proofs.Bits.{byte_of, bit_of_byte}
 use Rattle.file_plan.proofs.Pieces.{byte_here, byte_behind, zero_at}
 

@@ -1,6 +1,6 @@
 -- A file is a layout of one machine at most: its front and its first record tell the shape, its tail the devices, and
 -- its bitmaps and pages the RAM.
-use Rattle.std.proofs.Common.{◌≡◌, inl, inr, ℕ, ◌+◌, ◌-◌, ◌*◌, ◌/◌, ◌%◌, ◌^◌, ◌<◌, ◌≤◌, List, ◌++◌, length, get_or, take, drop, refl, sym, ap, ◌∙◌, subst, arith}
+use Rattle.std.proofs.Common.{◌≡◌, inl, inr, ℕ, ◌+◌, ◌*◌, ◌/◌, ◌%◌, ◌^◌, ◌<◌, List, length, get_or, take, drop, refl, sym, ap, ◌∙◌, subst, arith}
 use Rattle.std.proofs.lemmas.Bool.{cases_lt}
 use Rattle.std.proofs.lemmas.List.{append_cancel_left, ext_get_or, get_or-take, get_or-drop}
 use Rattle.std.proofs.lemmas.Nat.Bits.{bit_at-lt}
@@ -12,11 +12,11 @@ use Rattle.mig_stream.specs.Text.{be64}
 use Rattle.device_state.specs.DeviceText.{SameDevices, device_text}
 use Rattle.device_state.proofs.Split.{be64-same}
 use Rattle.device_state.proofs.Texts.{same_devices}
-use Rattle.flat_machine.specs.Machine.{IsMachine, MachineData, page_of}
+use Rattle.flat_machine.specs.Machine.{MachineData, page_of}
 use Rattle.flat_machine.specs.Page.{page_at}
 use Rattle.flat_machine.proofs.Inside.{length-page_of}
 use Rattle.file_plan.specs.Plan.{record_place, block_places, tail_place}
-use Rattle.file_plan.specs.Layout.{StandsAt, LaysPage, LaysShape, Lay, front_text, record_text, tail_text, page_bit}
+use Rattle.file_plan.specs.Layout.{StandsAt, Lay, front_text, record_text, tail_text, page_bit}
 
 -- two texts of one length that stand at one place are equal
 same_text : (file one two : List ℕ) (at : ℕ) → length one ≡ length two → StandsAt file at one → StandsAt file at two → one ≡ two

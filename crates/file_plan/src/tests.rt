@@ -32,5 +32,8 @@ fn the_numbers_of_the_format_are_these(rt: HostRuntime) {
     assert_eq!(rt; (TOTAL_FLAG, END_FLAG), (4, 16));
     assert_eq!(rt; (FIRST_RECORD, RECORD_HEAD), (47, 13));
     assert_eq!(rt; (START, END, FULL, FOOTER, EOF), (1, 3, 4, 0x7e, 0));
-    assert_eq!(rt; (PAGE, PAGES_ALIGN, HEADER_LEN, HEADER_VERSION), (4096, 0x10_0000, 28, 1));
+    assert_eq!(rt;
+        (PAGE, PAGES_ALIGN, HEADER_LEN, HEADER_VERSION),
+        (4096, 0x10_0000, 28, 1)
+    );
 }
