@@ -6,21 +6,13 @@ ghost use Rattle.rv64i_step.specs.Vcpu.{boot_vcpu};
 ghost use Rattle.vm_cli.specs.FirstSave.{one_page, no_serial};
 ghost use Rattle.device_state.specs.DeviceText.{Two, cpu_section, serial_section, timer_section, device_text};
 
+use device_state::{CPU_VERSION, FIRST_DEVICE, SERIAL_VERSION, TIMER_VERSION};
 use mig_stream::{EOF, FULL, put_be32, put_be64, put_footer, put_start};
 use ram_block::{NoMemory, RAM_BASE};
 use std::alloc::Global;
 
-// The version of the sections of vCPUs and of the timer.
-const SECTION_VERSION: u32 = 1;
-
-// The version of the serial section, with the input.
-const SERIAL_VERSION: u32 = 2;
-
 // The byte of a vCPU that runs.
 const RUNNING: u8 = 0;
-
-// The first section of a device has this id.
-const FIRST_DEVICE: u32 = 3;
 
 /// Appends the device text of a machine with one vCPU at boot, without input.
 #[tactic(auto, unfolding(device_state::specs::DeviceText::device_text, flat_machine::specs::Machine::boot))]
@@ -46,7 +38,7 @@ fn put_boot_vcpu(out: &mut Vec<u8>, number: u32) -> Result<(), NoMemory>
         FIRST_DEVICE + number,
         "cpu",
         number,
-        SECTION_VERSION,
+        CPU_VERSION,
     )?;
     let mut regs = [0; 31];
     regs[9] = u64::from(number);
@@ -94,7 +86,7 @@ fn put_boot_timer(out: &mut Vec<u8>, vcpus: u32) -> Result<(), NoMemory>
         FIRST_DEVICE + 1 + vcpus,
         "timer",
         0,
-        SECTION_VERSION,
+        TIMER_VERSION,
     )?;
     put_be64(out, 0)?;
     put_be64(out, 0)?;
