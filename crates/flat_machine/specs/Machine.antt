@@ -21,12 +21,6 @@ pub record MachineData : Type 0 where
 abbrev pub page_of : MachineData → ℕ → List ℕ
 page_of m p = page_at m.ram p
 
--- as many bytes and vCPUs as the shape has, and 31 registers in each vCPU
-pub record IsSized (m : MachineData) : Type 0 where
-  pub ram : length m.ram ≡ ram_bytes_of m.shape
-  pub vcpus : length m.vcpus ≡ m.shape.vcpus
-  pub regs : All (λ v. length v.regs ≡ 31) m.vcpus
-
 -- within the limits: each part as the shape has it, and each pending access one that it can serve
 pub record IsMachine (m : MachineData) : Type 0 where
   pub shape : IsShape m.shape

@@ -3,8 +3,9 @@ ghost use Rattle.std.specs.List.{range_with_len};
 ghost use Rattle.ram_block.specs.Shape.{ram_bytes_of, total_pages_of};
 ghost use Rattle.ram_block.specs.declared.limits.TheConstants.{MAX_INPUT};
 ghost use Rattle.ram_block.specs.declared.page_buf.TheConstants.{PAGE};
-ghost use Rattle.rv64i_step.specs.Vcpu.{IsPlaced, boot_vcpu};
-ghost use Rattle.flat_machine.specs.Machine.{boot, IsMachine};
+ghost use Rattle.rv64i_step.specs.Event.{IsServable};
+ghost use Rattle.rv64i_step.specs.Vcpu.{boot_vcpu};
+ghost use Rattle.flat_machine.specs.Machine.{boot, IsMachine, Rest};
 ghost use Rattle.flat_machine.specs.Page.{joined};
 
 use crate::Machine;

@@ -1,4 +1,4 @@
-ghost use Rattle.std.specs.Prelude.{◌≡◌, ◌≢◌, ◌<◌, ◌≤◌, map, string_bytes, length, slice_get, IfOk, IfErr, IfSome, IfNone};
+ghost use Rattle.std.specs.Prelude.{◌≡◌, ◌≢◌, ◌<◌, ◌≤◌, map, string_bytes, length, slice_get, IsOk, IfOk, IfErr, IfSome, IfNone};
 ghost use Rattle.vm_words.specs.Job.{job, HasSmallIndex, IsOfWords, IsUsageOf};
 ghost use Rattle.vm_words.specs.Limits.{IsWithinLimits};
 ghost use Rattle.vm_words.specs.Line.{faults, faults_by, kind_at, lacks_key, word_kind};
@@ -13,6 +13,7 @@ use std::alloc::Global;
 pub fn line_of(alloc: Global, words: &[String]) -> Result<Job, WordsFault>
     ensures job { IfOk result (λ made. job (map string_bytes words.now) ≡ Ok made) }
     ensures limits { IfOk result IsWithinLimits }
+    ensures few { IsOk result → length words.now ≤ 13 }
     ensures usage { IfErr result (IsUsageOf (map string_bytes words.now)) }
     ensures index { IfErr result HasSmallIndex }
     ensures kind { IfErr result IsOfWords }
@@ -41,6 +42,7 @@ pub fn line_of(alloc: Global, words: &[String]) -> Result<Job, WordsFault>
 // The first fault of a line of this command: of a word, of what is missing, of what doesn't go together.
 fn first_fault(command: CommandName, rest: &[String]) -> Option<(u32, UsageKind)>
     ensures fault { result ≡ slice_get (faults command (map string_bytes rest.now)) 0 }
+    ensures few { IfNone result (length rest.now ≤ 12) }
     ensures index { IfSome result (λ fault. fault.0 < 16) }
     ensures kind { IfSome result (λ fault. fault.1 ≢ UsageKind.NeedsThreads) }
 {

@@ -1,4 +1,4 @@
-use Rattle.std.proofs.Common.{◌≡◌, ℕ, ◌^◌, ◌<◌, ◌≤◌, None}
+use Rattle.std.proofs.Common.{◌≡◌, ℕ, ◌<◌, ◌≤◌, None}
 use Rattle.ram_block.specs.Shape.{ram_bytes_of}
 use Rattle.image_file.specs.Elf.{table_fault, image_len, IsSoundHeader}
 use Rattle.image_file.proofs.elf.check_table.Given as goal
