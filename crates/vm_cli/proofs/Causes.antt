@@ -1,212 +1,130 @@
--- The cause of each end of a job, by cases on the fault, and what follows from it.
-use Rattle.std.proofs.Common.{◌≡◌, inl, inr, ℕ, ◌<◌, List, [], ◌∷◌, length, Option, Some, None, Result, Ok, Err, refl, sym, ap, subst, ◌∙◌, ◌⊎◌, arith}
-use Rattle.std.specs.Prelude.{IfSome, IfOk}
+-- The cause of each end of a job, step by step; and that it ended as is called for follows from its cause.
+use Rattle.std.proofs.Common.{◌≡◌, ◌⊎◌, inl, inr, ℕ, ◌<◌, List, [], ◌∷◌, length, Option, Some, None, true, option_map, refl, sym, ap, subst, arith}
+use Rattle.std.proofs.lemmas.Bool.{lt-ltb}
+use Rattle.std.specs.Prelude.{IfSome, nat_lt}
+use Rattle.image_file.specs.declared.image_fault.ImageFault.{ImageFault}
+use Rattle.image_file.specs.declared.image_fault.ImageFault.TheVariants as image_faults
+use Rattle.image_file.specs.declared.image_refusal.ImageRefusal.{ImageRefusal}
 use Rattle.medium.specs.Count.{HasRisen}
-use Rattle.vm_cli.specs.Answer.{EndsAtImage, EndsEarly, EndsWith, Given, HasItsCause, HasJobCause, IsFaultOfLine, IsNotEmpty, IsTaken, called_for, fault_of_save, refusal_in, refusal_of, wrong_line, wrong_text}
-use Rattle.guest_asm.specs.declared.assembler.TheConstants.{MAX_TEXT}
-use Rattle.guest_asm.specs.Assemble.{IsAssembled, asm_of}
-use Rattle.image_file.specs.Image.{image_of, raw_of}
-use Rattle.file_plan.specs.Layout.{file_of}
-use Rattle.flat_machine.specs.Machine.{boot}
-use Rattle.vm_cli.specs.FirstSave.{one_page}
-use Rattle.std.specs.Option.{option_map_or}
-use Rattle.vm_words.specs.Job.{job}
-use Rattle.vm_words.specs.declared.fault.UsageKind.{UsageKind}
-use Rattle.vm_words.specs.declared.job.Job.{Job}
-use Rattle.vm_cli.specs.Words.{Serves, fault_of_line, job_served, line_fault, served_in, served_of}
+use Rattle.medium.specs.States.{FileState, SourceState}
+use Rattle.vm_cli.specs.Answer.{fault_of_image, fault_of_write}
+use Rattle.vm_cli.specs.Jobs.Common.{IsFilledWith, not_empty_in, read_image_step, write_output_step}
+use Rattle.vm_cli.specs.Steps.{AllPass, EndsAsCalledFor, Faults, HasCause, HasFailed, IsExcused, IsOfCall, IsOfStep, Object, Passes, Step, called_for, verdict_or}
+use Rattle.vm_cli.specs.Write.{IsUnwritten}
 use Rattle.vm_cli.specs.declared.answer.Fault.{Fault}
 use Rattle.vm_cli.specs.declared.answer.Fault.TheVariants as faults
-use Rattle.vm_cli.specs.declared.words.Served.{Served}
-use Rattle.vm_cli.specs.declared.words.Served.TheVariants.{FirstSave, Assembly}
-use Rattle.image_file.specs.declared.image_refusal.ImageRefusal.{ImageRefusal}
-use Rattle.vm_cli.specs.declared.save.SaveFault.{SaveFault}
-use Rattle.vm_cli.specs.declared.save.SaveFault.TheVariants.{FileFault, NotEmpty, NoMemory}
+use Rattle.vm_cli.specs.declared.write_fault.WriteFault.{WriteFault}
+use Rattle.vm_cli.specs.declared.write_fault.WriteFault.TheVariants as write_faults
 
--- ---- The causes of a job
+-- ---- What is told
 
--- an image that is accepted
-pub accepted : (image : Option (List ℕ)) (items : List ℕ) → ((bytes : List ℕ) → image ≡ Some bytes → image_of bytes one_page ≡ Ok items) → IsTaken FirstSave image
-accepted (Some bytes) items answer = ap refusal_in (answer bytes refl)
-accepted None items answer = tt
+-- a fact of what bytes call for, where they are told
+pub where_told : {X : Type 0} (f : List ℕ → X) (told : Option (List ℕ)) (P : X → Type 0) → ((bytes : List ℕ) → told ≡ Some bytes → P (f bytes)) → IfSome (option_map f told) P
+where_told f (Some bytes) P each = each bytes refl
+where_told f None P each = tt
 
--- a text that assembles
-pub assembles : (image : Option (List ℕ)) (text items bytes : List ℕ) → ((b : List ℕ) → image ≡ Some b → raw_of b MAX_TEXT ≡ Ok items) → text ≡ items → IsAssembled text bytes →
-    IsTaken Assembly image
-assembles (Some b) text items bytes answer same made =
-    ap wrong_text (answer b refl) ∙ ap (λ (t : List ℕ). wrong_line (asm_of t)) (sym same) ∙ ap wrong_line made.answer
-assembles None text items bytes answer same made = tt
+-- a fact of anything holds of what is there
+always : {X : Type 0} (o : Option X) (P : X → Type 0) → ((x : X) → P x) → IfSome o P
+always (Some x) P each = each x
+always None P each = tt
 
--- a fault of what is written to the output
-pub write_caused : (served : Served) (given : Given) (e : SaveFault) → IsTaken served given.image
-    → (e ≡ FileFault → HasRisen given.output_before given.output_after) → ((len : ℕ) → e ≡ NotEmpty len → (0 < len) × IfSome given.output (λ bytes. len ≡ length bytes))
-    → HasJobCause served given (Some (fault_of_save e))
-write_caused served given FileFault taken fault not_empty = (taken, fault refl)
-write_caused served given (NotEmpty len) taken fault not_empty = let bytes = not_empty len refl in (taken, bytes.0, bytes.1)
-write_caused served given NoMemory taken fault not_empty = tt
+-- ---- The cause of an end, at a step and behind it
 
-pub write_leaves : (e : SaveFault) (P : Type 0) → ((len : ℕ) → e ≡ NotEmpty len → P) → IsNotEmpty (Some (fault_of_save e)) → P
-write_leaves FileFault P holds is = absurd is
-write_leaves (NotEmpty len) P holds is = holds len refl
-write_leaves NoMemory P holds is = absurd is
+-- a step that passes leaves the cause to those behind it
+pub passed : (old new : Faults) (step : Step) (steps : List Step) (end : Option Fault) → Passes step → HasCause old new steps end → HasCause old new (step ∷ steps) end
+passed old new step steps None passes cause = (passes, cause)
+passed old new step steps (Some fault) passes (inl memory) = inl memory
+passed old new step steps (Some fault) passes (inr cause) = inr (inr (inr (passes, cause)))
 
--- a fault of the words
-pub line_caused : (words : List (List ℕ)) (given : Given) (f : Fault) → IsFaultOfLine words f → HasItsCause words given (Some f)
-line_caused words given (faults.Usage index kind) is = is
-line_caused words given faults.NotYet is = is
-line_caused words given faults.NoMemory is = tt
-line_caused words given _ is = absurd is
+-- an image that was not read
+pub unread : (old new : Faults) (image : SourceState) (refusal : List ℕ → Option Fault) (steps : List Step) (e : ImageFault)
+    → ((bytes : List ℕ) (r : ImageRefusal) → image.left ≡ Some bytes → e ≡ image_faults.Refused r → refusal bytes ≡ Some (faults.ImageRefused r))
+    → (e ≡ image_faults.ReadFault → HasRisen old.image new.image) → HasCause old new (read_image_step refusal image ∷ steps) (Some (fault_of_image e))
+unread old new image refusal steps (image_faults.Refused r) answer rose =
+    inr (inr (inl (refl, where_told refusal image.left (λ v. v ≡ Some (faults.ImageRefused r)) (λ bytes is. answer bytes r is refl))))
+unread old new image refusal steps image_faults.ReadFault answer rose = inr (inl (refl, rose refl))
+unread old new image refusal steps image_faults.NoMemory answer rose = inl refl
 
--- a job that is served
-pub job_caused : (words : List (List ℕ)) (served : Served) (given : Given) (end : Option Fault) → Serves words served → HasJobCause served given end →
-    HasItsCause words given end
-job_caused words served given None is cause = (served, is, cause)
-job_caused words served given (Some (faults.Usage index kind)) is cause = absurd cause
-job_caused words served given (Some faults.NotYet) is cause = absurd cause
-job_caused words served given (Some faults.NoMemory) is cause = tt
-job_caused words served given (Some (faults.ImageRefused refusal)) is cause = (served, is, cause)
-job_caused words served given (Some (faults.AsmRefused line kind)) is cause = (served, is, cause)
-job_caused words served given (Some faults.ImageFault) is cause = (served, is, cause)
-job_caused words served given (Some faults.FileFault) is cause = (served, is, cause)
-job_caused words served given (Some (faults.NotEmpty len)) is cause = (served, is, cause)
-job_caused words served given (Some faults.ConsoleFault) is cause = (served, is, cause)
-
--- ---- A line is served or has a fault
-
-one_by : (o : Option Served) (fault : Fault) (served : Served) → o ≡ Some served → option_map_or (λ s. None) o (Some faults.NotYet) ≡ Some fault → ⊥
-one_by None fault served is wrong = cc is
-one_by (Some s) fault served is wrong = cc wrong
-
-one_of : (made : Result Job (ℕ × UsageKind)) (fault : Fault) (served : Served) → served_in made ≡ Some served → fault_of_line made ≡ Some fault → ⊥
-one_of (Err wrong) fault served is line = cc is
-one_of (Ok job) fault served is line = one_by (served_of job) fault served is line
-
--- words that are served have no fault
-not_both : (words : List (List ℕ)) (fault : Fault) (served : Served) → Serves words served → line_fault words ≡ Some fault → ⊥
-unfolding line_fault job_served
-not_both words fault served is wrong = one_of (job words) fault served is wrong
-
--- one line is served as one job
-of_served : (words : List (List ℕ)) (served other : Served) (given : Given) (end : Option Fault) → Serves words served → Serves words other → HasJobCause other given end → HasJobCause served given end
-of_served words served other given end is was cause =
-    let same : other ≡ served = cc (is, was) in
-    subst (λ (s : Served). HasJobCause s given end) same cause
-
--- ---- What follows from a cause
-
-pub words_end : (words : List (List ℕ)) (given : Given) (end : Option Fault) (fault : Fault) → HasItsCause words given end → line_fault words ≡ Some fault → EndsEarly fault end
-words_end words given (Some (faults.Usage index kind)) fault cause is = inl (sym cause ∙ is)
-words_end words given (Some faults.NotYet) fault cause is = inl (sym cause ∙ is)
-words_end words given (Some faults.NoMemory) fault cause is = inr refl
-words_end words given None fault cause is = absurd (not_both words fault cause.0 cause.1 is)
-words_end words given (Some (faults.ImageRefused refusal)) fault cause is = absurd (not_both words fault cause.0 cause.1 is)
-words_end words given (Some (faults.AsmRefused line kind)) fault cause is = absurd (not_both words fault cause.0 cause.1 is)
-words_end words given (Some faults.ImageFault) fault cause is = absurd (not_both words fault cause.0 cause.1 is)
-words_end words given (Some faults.FileFault) fault cause is = absurd (not_both words fault cause.0 cause.1 is)
-words_end words given (Some (faults.NotEmpty len)) fault cause is = absurd (not_both words fault cause.0 cause.1 is)
-words_end words given (Some faults.ConsoleFault) fault cause is = absurd (not_both words fault cause.0 cause.1 is)
-
--- the cause of the end of a line that is served
-served_cause : (words : List (List ℕ)) (served : Served) (given : Given) (end : Option Fault) → Serves words served → HasItsCause words given end → HasJobCause served given end
-served_cause words served given (Some (faults.Usage index kind)) is cause = absurd (not_both words (faults.Usage index kind) served is cause)
-served_cause words served given (Some faults.NotYet) is cause = absurd (not_both words faults.NotYet served is cause)
-served_cause words served given (Some faults.NoMemory) is cause = tt
-served_cause words served given None is cause = of_served words served cause.0 given None is cause.1 cause.2
-served_cause words served given (Some (faults.ImageRefused refusal)) is cause = of_served words served cause.0 given (Some (faults.ImageRefused refusal)) is cause.1 cause.2
-served_cause words served given (Some (faults.AsmRefused line kind)) is cause = of_served words served cause.0 given (Some (faults.AsmRefused line kind)) is cause.1 cause.2
-served_cause words served given (Some faults.ImageFault) is cause = of_served words served cause.0 given (Some faults.ImageFault) is cause.1 cause.2
-served_cause words served given (Some faults.FileFault) is cause = of_served words served cause.0 given (Some faults.FileFault) is cause.1 cause.2
-served_cause words served given (Some (faults.NotEmpty len)) is cause = of_served words served cause.0 given (Some (faults.NotEmpty len)) is cause.1 cause.2
-served_cause words served given (Some faults.ConsoleFault) is cause = of_served words served cause.0 given (Some faults.ConsoleFault) is cause.1 cause.2
-
--- a fact of bytes that are told
-told : (P : List ℕ → Type 0) (o : Option (List ℕ)) (bytes : List ℕ) → o ≡ Some bytes → IfSome o P → P bytes
-told P o bytes is h = subst (λ (x : Option (List ℕ)). IfSome x P) is h
-
--- a taken image is not refused
-not_taken : {A : Type 0} (served : Served) (image : Option (List ℕ)) (bytes : List ℕ) (refusal : Fault) → image ≡ Some bytes → refusal_of served bytes ≡ Some refusal → IsTaken served image → A
-not_taken served image bytes refusal is refused taken =
-    let none : refusal_of served bytes ≡ None = told (λ b. refusal_of served b ≡ None) image bytes is taken in
-    absurd (cc (none, refused))
-
--- a job whose image is refused
-at_image : (served : Served) (given : Given) (end : Option Fault) (bytes : List ℕ) (refusal : Fault) → given.image ≡ Some bytes → refusal_of served bytes ≡ Some refusal →
-    HasJobCause served given end → EndsAtImage refusal end
-at_image served given None bytes refusal is refused cause = not_taken served given.image bytes refusal is refused cause.0
-at_image served given (Some (faults.Usage index kind)) bytes refusal is refused cause = absurd cause
-at_image served given (Some faults.NotYet) bytes refusal is refused cause = absurd cause
-at_image served given (Some faults.NoMemory) bytes refusal is refused cause = inr (inr refl)
-at_image served given (Some faults.ImageFault) bytes refusal is refused cause = inr (inl refl)
-at_image served given (Some (faults.ImageRefused r)) bytes refusal is refused cause = inl (sym (told (λ b. refusal_of served b ≡ Some (faults.ImageRefused r)) given.image bytes is cause) ∙ refused)
-at_image served given (Some (faults.AsmRefused line kind)) bytes refusal is refused cause = inl (sym (told (λ b. refusal_of served b ≡ Some (faults.AsmRefused line kind)) given.image bytes is cause.1) ∙ refused)
-at_image served given (Some faults.FileFault) bytes refusal is refused cause = not_taken served given.image bytes refusal is refused cause.0
-at_image served given (Some (faults.NotEmpty len)) bytes refusal is refused cause = not_taken served given.image bytes refusal is refused cause.0
-at_image served given (Some faults.ConsoleFault) bytes refusal is refused cause = not_taken served given.image bytes refusal is refused cause.1
-
-pub image_end : (words : List (List ℕ)) (served : Served) (given : Given) (end : Option Fault) (bytes : List ℕ) (refusal : Fault) → HasItsCause words given end → Serves words served →
-    given.image ≡ Some bytes → refusal_of served bytes ≡ Some refusal → EndsAtImage refusal end
-image_end words served given end bytes refusal cause is image refused =
-    at_image served given end bytes refusal image refused (served_cause words served given end is cause)
-
--- a refusal is none where the image is taken
-not_refused : {A : Type 0} (served : Served) (image : Option (List ℕ)) (bytes : List ℕ) (refusal : Fault) → image ≡ Some bytes → refusal_of served bytes ≡ None →
-    IfSome image (λ b. refusal_of served b ≡ Some refusal) → A
-not_refused served image bytes refusal is taken refused =
-    let some : refusal_of served bytes ≡ Some refusal = told (λ b. refusal_of served b ≡ Some refusal) image bytes is refused in
-    absurd (cc (some, taken))
-
-full : (before : List ℕ) (len : ℕ) → 0 < len → len ≡ length before → called_for before ≡ Some (faults.NotEmpty len)
+-- the length of a file that has bytes calls for a refusal
+full : (bytes : List ℕ) (len : ℕ) → 0 < len → len ≡ length bytes → not_empty_in bytes ≡ Some (faults.NotEmpty len)
 full [] len some is = absurd (omega (arith, some, is))
-full (b ∷ before) len some is = ap (λ (n : ℕ). Some (faults.NotEmpty n)) (sym is)
+full (b ∷ bytes) len some is = ap (λ (n : ℕ). Some (faults.NotEmpty n)) (sym is)
 
--- a job whose image is taken
-at_output : (served : Served) (given : Given) (end : Option Fault) (bytes before : List ℕ) → given.image ≡ Some bytes → refusal_of served bytes ≡ None → given.output ≡ Some before →
-    HasJobCause served given end → EndsWith (called_for before) end
-at_output served given None bytes before is taken output cause = inl (ap called_for (sym (told (λ b. b ≡ []) given.output before output cause.1)))
-at_output served given (Some (faults.Usage index kind)) bytes before is taken output cause = absurd cause
-at_output served given (Some faults.NotYet) bytes before is taken output cause = absurd cause
-at_output served given (Some (faults.ImageRefused r)) bytes before is taken output cause = not_refused served given.image bytes (faults.ImageRefused r) is taken cause
-at_output served given (Some (faults.AsmRefused line kind)) bytes before is taken output cause = not_refused served given.image bytes (faults.AsmRefused line kind) is taken cause.1
-at_output served given (Some faults.ImageFault) bytes before is taken output cause = inr (inl refl)
-at_output served given (Some faults.FileFault) bytes before is taken output cause = inr (inr (inl refl))
-at_output served given (Some faults.ConsoleFault) bytes before is taken output cause = inr (inr (inr (inl refl)))
-at_output served given (Some faults.NoMemory) bytes before is taken output cause = inr (inr (inr (inr refl)))
-at_output served given (Some (faults.NotEmpty len)) bytes before is taken output cause = inl (sym (full before len cause.1 (told (λ b. len ≡ length b) given.output before output cause.2)))
+some_is_true : (n : ℕ) → 0 < n → nat_lt 0 n ≡ true
+some_is_true n some = lt-ltb 0 n some
 
-pub output_end : (words : List (List ℕ)) (served : Served) (given : Given) (end : Option Fault) (bytes before : List ℕ) → HasItsCause words given end → Serves words served →
-    given.image ≡ Some bytes → refusal_of served bytes ≡ None → given.output ≡ Some before → EndsWith (called_for before) end
-output_end words served given end bytes before cause is image taken output =
-    at_output served given end bytes before image taken output (served_cause words served given end is cause)
+told_fact : (P : List ℕ → Type 0) (told : Option (List ℕ)) (bytes : List ℕ) → IfSome told P → told ≡ Some bytes → P bytes
+told_fact P told bytes holds is = subst (λ (o : Option (List ℕ)). IfSome o P) is holds
 
--- a job whose image is taken and whose output is empty, where no count rose
-at_end : (served : Served) (given : Given) (end : Option Fault) (bytes : List ℕ) → given.image ≡ Some bytes → refusal_of served bytes ≡ None → given.output ≡ Some [] →
-    (HasRisen given.image_before given.image_after → ⊥) → (HasRisen given.output_before given.output_after → ⊥) → (HasRisen given.console_before given.console_after → ⊥) →
-    HasJobCause served given end → (end ≡ None) ⊎ (end ≡ Some faults.NoMemory)
-at_end served given None bytes is taken output image file console cause = inl refl
-at_end served given (Some faults.NoMemory) bytes is taken output image file console cause = inr refl
-at_end served given (Some (faults.Usage index kind)) bytes is taken output image file console cause = absurd cause
-at_end served given (Some faults.NotYet) bytes is taken output image file console cause = absurd cause
-at_end served given (Some (faults.ImageRefused r)) bytes is taken output image file console cause = not_refused served given.image bytes (faults.ImageRefused r) is taken cause
-at_end served given (Some (faults.AsmRefused line kind)) bytes is taken output image file console cause = not_refused served given.image bytes (faults.AsmRefused line kind) is taken cause.1
-at_end served given (Some faults.ImageFault) bytes is taken output image file console cause = absurd (image cause)
-at_end served given (Some faults.FileFault) bytes is taken output image file console cause = absurd (file cause.1)
-at_end served given (Some faults.ConsoleFault) bytes is taken output image file console cause = absurd (console cause.3)
-at_end served given (Some (faults.NotEmpty len)) bytes is taken output image file console cause =
-    let none : len ≡ 0 = told (λ b. len ≡ length b) given.output [] output cause.2 in
-    absurd (omega (arith, none, cause.1))
+-- an output that was not written
+pub unwritten : (old new : Faults) (before after : FileState) (steps : List Step) (e : WriteFault) → before.faults ≡ old.output → after.faults ≡ new.output
+    → IsUnwritten before after e → HasCause old new (write_output_step before ∷ steps) (Some (fault_of_write e))
+unwritten old new before after steps write_faults.FileFault was is rose =
+    inr (inl (refl, subst (λ (n : ℕ). HasRisen n new.output) was (subst (λ (n : ℕ). HasRisen before.faults n) is rose)))
+unwritten old new before after steps (write_faults.NotEmpty len) was is cause =
+    inr (inr (inl (some_is_true len cause.0, where_told not_empty_in before.told (λ v. v ≡ Some (faults.NotEmpty len)) (λ bytes told. full bytes len cause.0 (told_fact (λ b. len ≡ length b) before.told bytes cause.1 told)))))
+unwritten old new before after steps write_faults.NoMemory was is cause = inl refl
 
-pub complete_end : (words : List (List ℕ)) (served : Served) (given : Given) (end : Option Fault) (bytes : List ℕ) → HasItsCause words given end → Serves words served →
-    given.image ≡ Some bytes → refusal_of served bytes ≡ None → given.output ≡ Some [] →
-    (HasRisen given.image_before given.image_after → ⊥) → (HasRisen given.output_before given.output_after → ⊥) → (HasRisen given.console_before given.console_after → ⊥) →
-    (end ≡ None) ⊎ (end ≡ Some faults.NoMemory)
-complete_end words served given end bytes cause is image taken output no_image no_file no_console =
-    at_end served given end bytes image taken output no_image no_file no_console (served_cause words served given end is cause)
+-- an output that was written was empty
+pub written_passes : (bytes : List ℕ) (old new : FileState) → IsFilledWith bytes old new → Passes (write_output_step old)
+written_passes bytes old new filled =
+    where_told not_empty_in old.told (λ v. v ≡ None)
+    (λ before told. ap not_empty_in (told_fact (λ b. (b ≡ []) × (new.told ≡ Some bytes)) old.told before filled told).0)
 
--- ---- What a save did
+-- ---- What goes on holding
 
--- the file of the machine at boot, of the image that was read
-pub file_saved : (output new : Option (List ℕ)) (read : Result (List ℕ) ImageRefusal) (image bytes : List ℕ) → read ≡ Ok image → bytes ≡ image
-    → IfSome output (λ before. (before ≡ []) × (new ≡ Some (file_of (boot one_page bytes []))))
-    → IfSome output (λ before. (before ≡ []) × IfOk read (λ image. new ≡ Some (file_of (boot one_page image []))))
-file_saved output new read image bytes read_is same saved =
-    subst (λ (r : Result (List ℕ) ImageRefusal). IfSome output (λ before. (before ≡ []) × IfOk r (λ image. new ≡ Some (file_of (boot one_page image []))))) (sym read_is)
-    (subst (λ (l : List ℕ). IfSome output (λ before. (before ≡ []) × (new ≡ Some (file_of (boot one_page l []))))) same saved)
+of_call_later : (old mid new : Faults) (calls : Option Object) (fault : Fault) → ((object : Object) → HasFailed old mid object → HasFailed old new object)
+    → IsOfCall old mid calls fault → IsOfCall old new calls fault
+of_call_later old mid new None fault later of_call = of_call
+of_call_later old mid new (Some object) fault later of_call = (of_call.0, later object of_call.1)
+
+of_step_later : (old mid new : Faults) (steps : List Step) (fault : Fault) → ((object : Object) → HasFailed old mid object → HasFailed old new object)
+    → IsOfStep old mid steps fault → IsOfStep old new steps fault
+of_step_later old mid new [] fault later of_step = of_step
+of_step_later old mid new (step ∷ steps) fault later (inl of_call) = inl (of_call_later old mid new step.calls fault later of_call)
+of_step_later old mid new (step ∷ steps) fault later (inr (inl refusal)) = inr (inl refusal)
+of_step_later old mid new (step ∷ steps) fault later (inr (inr behind)) = inr (inr (behind.0, of_step_later old mid new steps fault later behind.1))
+
+-- a cause is one at any later moment
+pub cause_later : (old mid new : Faults) (steps : List Step) (end : Option Fault) → ((object : Object) → HasFailed old mid object → HasFailed old new object)
+    → HasCause old mid steps end → HasCause old new steps end
+cause_later old mid new steps None later cause = cause
+cause_later old mid new steps (Some fault) later (inl memory) = inl memory
+cause_later old mid new steps (Some fault) later (inr of_step) = inr (of_step_later old mid new steps fault later of_step)
+
+-- ---- The end that is called for
+
+-- behind a step that passes, it is that of the other steps
+behind : (verdict later : Option (Option Fault)) (P : Option Fault → Type 0) → IfSome verdict (λ refusal. refusal ≡ None) → IfSome later P → IfSome (verdict_or verdict later) P
+behind None later P passes holds = tt
+behind (Some None) later P passes holds = holds
+behind (Some (Some refusal)) later P passes holds = absurd (cc passes)
+
+-- at a step that refuses, it is its refusal
+at_refusal : (verdict later : Option (Option Fault)) (fault : Fault) (P : Option Fault → Type 0) → IfSome verdict (λ refusal. refusal ≡ Some fault) → P (Some fault) → IfSome (verdict_or verdict later) P
+at_refusal None later fault P refused holds = tt
+at_refusal (Some None) later fault P refused holds = absurd (cc refused)
+at_refusal (Some (Some refusal)) later fault P refused holds = subst P (sym refused) holds
+
+of_passed : (old new : Faults) (steps : List Step) → AllPass steps → IfSome (called_for steps) (λ wanted. (None ≡ wanted) ⊎ IsExcused old new None)
+of_passed old new [] passes = inl refl
+of_passed old new (step ∷ steps) passes = behind step.verdict (called_for steps) (λ wanted. (None ≡ wanted) ⊎ IsExcused old new None) passes.0 (of_passed old new steps passes.1)
+
+call_excuses : (old new : Faults) (calls : Option Object) (fault : Fault) → IsOfCall old new calls fault → IsExcused old new (Some fault)
+call_excuses old new None fault of_call = absurd of_call
+call_excuses old new (Some object) fault of_call = inr (object, ap Some of_call.0, of_call.1)
+
+of_step : (old new : Faults) (steps : List Step) (fault : Fault) → IsOfStep old new steps fault → IfSome (called_for steps) (λ wanted. (Some fault ≡ wanted) ⊎ IsExcused old new (Some fault))
+of_step old new [] fault is = absurd is
+of_step old new (step ∷ steps) fault (inl of_call) =
+    always (called_for (step ∷ steps)) (λ wanted. (Some fault ≡ wanted) ⊎ IsExcused old new (Some fault)) (λ wanted. inr (call_excuses old new step.calls fault of_call))
+of_step old new (step ∷ steps) fault (inr (inl refusal)) =
+    at_refusal step.verdict (called_for steps) fault (λ wanted. (Some fault ≡ wanted) ⊎ IsExcused old new (Some fault)) refusal.1 (inl refl)
+of_step old new (step ∷ steps) fault (inr (inr later)) =
+    behind step.verdict (called_for steps) (λ wanted. (Some fault ≡ wanted) ⊎ IsExcused old new (Some fault)) later.0 (of_step old new steps fault later.1)
+
+pub ends_as_called_for : (old new : Faults) (steps : List Step) (end : Option Fault) → HasCause old new steps end → EndsAsCalledFor old new steps end
+ends_as_called_for old new steps None cause = of_passed old new steps cause
+ends_as_called_for old new steps (Some fault) (inl memory) =
+    always (called_for steps) (λ wanted. (Some fault ≡ wanted) ⊎ IsExcused old new (Some fault)) (λ wanted. inr (inl (ap Some memory)))
+ends_as_called_for old new steps (Some fault) (inr is) = of_step old new steps fault is

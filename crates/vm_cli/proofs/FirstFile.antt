@@ -134,6 +134,19 @@ pub length-last : length (tail_text ++ device_text Two (boot one_page [] [])) �
 unfolding tail_text device_text cpu_section serial_section timer_section boot
 length-last = refl
 
+-- the devices of the machine at boot don't depend on its image
+pub devices_of_boot : (image : List ℕ) → device_text Two (boot one_page image []) ≡ device_text Two (boot one_page [] [])
+unfolding device_text boot
+devices_of_boot image = refl
+
+pub shape_of_boot : (image : List ℕ) → (boot one_page image []).shape ≡ one_page
+unfolding boot
+shape_of_boot image = refl
+
+pub page_of_boot : (image : List ℕ) → (boot one_page image []).ram ≡ image ++ replicate (4096 - length image) 0
+unfolding boot
+page_of_boot image = refl
+
 -- the same, by what each text is made of
 pub saved_file : (plan : ShapeData) (image page head_text tail_bytes : List ℕ) → length image ≤ 4096 → plan ≡ one_page → page ≡ image ++ replicate (4096 - length image) 0
     → head_text ≡ first_head page → tail_bytes ≡ tail_text ++ device_text Two (boot one_page [] []) → laid plan page head_text tail_bytes ≡ file_of (boot one_page image [])

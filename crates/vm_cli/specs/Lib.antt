@@ -1,5 +1,11 @@
+pub mod Images
 pub mod Words
-pub mod FirstSave
+pub mod Outside
+pub mod Steps
+pub mod Jobs
 pub mod Answer
+pub mod Ends
+pub mod FirstSave
 pub mod FaultLine
 pub mod Parts
+pub mod Write

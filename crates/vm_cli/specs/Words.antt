@@ -1,17 +1,22 @@
 -- Which lines are served, and the fault of every other (this project's own, docs/COMMAND_LINE.md).
-use Rattle.std.specs.Prelude.{◌≡◌, ℕ, Bool, true, false, ◌&&◌, ◌==◌, List, [], ◌∷◌, Option, Some, None, Result, Ok, Err, if◌then◌else◌}
-use Rattle.std.specs.Option.{option_map_or}
+use Rattle.std.specs.Prelude.{◌≡◌, ℕ, ◌+◌, Bool, true, false, ◌&&◌, ◌==◌, nat_eq, List, [], ◌∷◌, codes, Option, Some, None, Result, Ok, Err, if◌then◌else◌}
+use Rattle.std.specs.List.{starts_with}
 use Rattle.ram_block.specs.Shape.{ShapeData}
 use Rattle.vm_words.specs.Job.{job}
 use Rattle.vm_words.specs.declared.fault.UsageKind.{UsageKind}
+use Rattle.vm_words.specs.declared.fault.UsageKind.TheVariants.{NeedsThreads}
 use Rattle.vm_words.specs.declared.job.Job.{Job}
 use Rattle.vm_words.specs.declared.job.Job.TheVariants as jobs
 use Rattle.vm_words.specs.declared.job.Mode.{Mode}
 use Rattle.vm_words.specs.declared.job.Mode.TheVariants.{Sliced, Threads}
 use Rattle.vm_cli.specs.declared.answer.Fault.{Fault}
-use Rattle.vm_cli.specs.declared.answer.Fault.TheVariants.{Usage, NotYet}
+use Rattle.vm_cli.specs.declared.answer.Fault.TheVariants.{Usage, NotYet, NoMemory}
+use Rattle.vm_cli.specs.declared.words.Caller.{Caller}
+use Rattle.vm_cli.specs.declared.words.Caller.TheVariants.{Still, Threaded}
 use Rattle.vm_cli.specs.declared.words.Served.{Served}
 use Rattle.vm_cli.specs.declared.words.Served.TheVariants.{FirstSave, Assembly}
+
+-- ---- Which jobs are served
 
 -- the smallest shape
 abbrev pub is_one_page : ShapeData → Bool
@@ -41,25 +46,46 @@ abbrev pub served_in : Result Job (ℕ × UsageKind) → Option Served
 served_in (Err wrong) = None
 served_in (Ok job) = served_of job
 
+-- the job of the words, where it is served
+unfoldable pub served_line : List (List ℕ) → Option Served
+served_line words = served_in (job words)
+
+-- ---- Which lines are refused
+
+-- the index of the first word of a mode, where so many words stand before these
+abbrev pub mode_word : ℕ → List (List ℕ) → ℕ
+mode_word before [] = 0
+mode_word before (word ∷ words) = if starts_with nat_eq word (codes "mode=") then before else mode_word (before + 1) words
+
+-- the word that asks for threads: that of the mode in a save, and the command itself in a record
+abbrev pub threads_word : List (List ℕ) → Job → Option ℕ
+threads_word words (jobs.Save shape stop run Threads turns input relay) = Some (mode_word 0 words)
+threads_word words (jobs.Record shape run input) = Some 0
+threads_word words job = None
+
+-- the same, where the caller can start none
+abbrev pub forbidden_word : Caller → List (List ℕ) → Job → Option ℕ
+forbidden_word Still words job = threads_word words job
+forbidden_word Threaded words job = None
+
+-- the fault of a line that is not served
+abbrev pub fault_of_job : Option ℕ → Option Served → Option Fault
+fault_of_job (Some index) served = Some (Usage index NeedsThreads)
+fault_of_job None None = Some NotYet
+fault_of_job None (Some served) = None
+
 -- why a line isn't served, if it isn't
-abbrev pub fault_of_line : Result Job (ℕ × UsageKind) → Option Fault
-fault_of_line (Err wrong) = Some (Usage wrong.0 wrong.1)
-fault_of_line (Ok job) = option_map_or (λ served. None) (served_of job) (Some NotYet)
+abbrev pub fault_of_line : Caller → List (List ℕ) → Result Job (ℕ × UsageKind) → Option Fault
+fault_of_line caller words (Err wrong) = Some (Usage wrong.0 wrong.1)
+fault_of_line caller words (Ok job) = fault_of_job (forbidden_word caller words job) (served_of job)
 
 -- the same, of words
-unfoldable pub line_fault : List (List ℕ) → Option Fault
-line_fault words = fault_of_line (job words)
+unfoldable pub line_fault : Caller → List (List ℕ) → Option Fault
+line_fault caller words = fault_of_line caller words (job words)
 
-unfoldable pub job_served : List (List ℕ) → Option Served
-job_served words = served_in (job words)
-
--- the words are a line of this job
-abbrev pub Serves : List (List ℕ) → Served → Type 0
-Serves words served = job_served words ≡ Some served
-
--- the words are the line of the first save, or that of an assembly
-abbrev pub IsFirstSave : List (List ℕ) → Type 0
-IsFirstSave words = Serves words FirstSave
-
-abbrev pub IsAssembly : List (List ℕ) → Type 0
-IsAssembly words = Serves words Assembly
+-- the fault is that of the words, or want of memory
+abbrev pub IsFaultOfLine : Caller → List (List ℕ) → Fault → Type 0
+IsFaultOfLine caller words (Usage index kind) = line_fault caller words ≡ Some (Usage index kind)
+IsFaultOfLine caller words NotYet = line_fault caller words ≡ Some NotYet
+IsFaultOfLine caller words NoMemory = Unit {0}
+IsFaultOfLine caller words _ = ⊥

@@ -1,7 +1,7 @@
 ghost use Rattle.std.specs.Prelude.{◌≡◌};
-ghost use Rattle.vm_cli.specs.Answer.{fault_status, status_of, fault_of_image, fault_of_save, fault_of_text, fault_of_words};
+ghost use Rattle.vm_cli.specs.Answer.{fault_status, status_of, fault_of_image, fault_of_write, fault_of_text, fault_of_words};
 
-use crate::save::SaveFault;
+use crate::write_fault::WriteFault;
 use flat_machine::Order;
 use guest_asm::{AsmFault, AsmKind};
 use image_file::{ImageFault, ImageRefusal};
@@ -80,14 +80,14 @@ impl From<AsmFault> for Fault {
     }
 }
 
-impl From<SaveFault> for Fault {
-    ghost from_gives = { λ e f. f ≡ fault_of_save e };
+impl From<WriteFault> for Fault {
+    ghost from_gives = { λ e f. f ≡ fault_of_write e };
 
-    fn from(fault: SaveFault) -> Self {
+    fn from(fault: WriteFault) -> Self {
         match fault {
-            SaveFault::FileFault => Fault::FileFault,
-            SaveFault::NotEmpty(len) => Fault::NotEmpty { len },
-            SaveFault::NoMemory => Fault::NoMemory,
+            WriteFault::FileFault => Fault::FileFault,
+            WriteFault::NotEmpty(len) => Fault::NotEmpty { len },
+            WriteFault::NoMemory => Fault::NoMemory,
         }
     }
 }

@@ -1,15 +1,22 @@
-ghost use Rattle.std.specs.Prelude.{◌≡◌, ◌≤◌, ◌<◌, ◌^◌, ℕ, List, [], Some, Err, length, IfSome, IsOk, OnOk};
-ghost use Rattle.medium.specs.Count.{HasRisen};
-ghost use Rattle.medium.specs.Crash.{Only};
-ghost use Rattle.vm_cli.specs.Answer.{HasJobCause, IsBeforeConsole, IsBeforeOutput, IsNotEmpty, IsWorkDone, IsWritten, Takes, fault_in};
+ghost use Rattle.std.specs.Prelude.{◌≡◌, ◌≤◌, ◌+◌, ◌^◌, ℕ, List, Err, length, IfErr, OnOk};
+ghost use Rattle.guest_asm.specs.declared.assembler.TheConstants.{MAX_TEXT};
+ghost use Rattle.image_file.specs.Image.{ReadsOn};
+ghost use Rattle.medium.specs.Count.{counted};
+ghost use Rattle.medium.specs.Members.{file_state, source_state};
+ghost use Rattle.medium.specs.States.{Leaves};
+ghost use Rattle.vm_cli.specs.Answer.{fault_in};
+ghost use Rattle.vm_cli.specs.Ends.{IsBeforeOutput, IsNotEmpty, IsUsage, IsWorkDone};
+ghost use Rattle.vm_cli.specs.Jobs.Assembly.{WritesAssembly, assembly_steps};
+ghost use Rattle.vm_cli.specs.Jobs.Common.{IsDurable, IsFilledWith, Takes};
 ghost use Rattle.vm_cli.specs.Parts.{assembled_line};
-ghost use Rattle.vm_cli.specs.declared.words.Served.TheVariants.{Assembly as assembly};
-ghost use Rattle.vm_cli.specs.declared.save.SaveFault.TheVariants.{FileFault as file_fault, NotEmpty as not_empty, NoMemory as out_of_memory};
+ghost use Rattle.vm_cli.specs.Steps.{HasCause};
+ghost use Rattle.vm_cli.specs.Write.{IsBeforeConsole, IsUnwritten, KeepsFull};
+ghost use Rattle.vm_cli.specs.declared.write_fault.WriteFault.TheVariants.{NoMemory as out_of_memory};
 
 use crate::Fault;
 use crate::parts::Part::{Number, Text};
 use crate::parts::put_parts;
-use crate::save::SaveFault;
+use crate::write_fault::WriteFault;
 use guest_asm::{MAX_TEXT, assemble};
 use image_file::read_raw;
 use medium::{Medium, Sink, Source};
@@ -22,23 +29,18 @@ pub(crate) fn assemble_image<S: Source, M: Medium, K: Sink>(
     output: &mut M,
     console: &mut K,
 ) -> Result<(), Fault>
-    ensures assembled { IsWorkDone (fault_in result) → (text : List ℕ) → S.left image.old ≡ Some text
-        → (bytes : List ℕ) × IsWritten text bytes (S.left image.new) (M.told output.old) (M.told output.new) × Takes (fault_in result) (assembled_line (length bytes)) (K.taken console.old) (K.taken console.new) }
-    ensures durable { IsWorkDone (fault_in result) → IfSome (M.told output.new) (λ bytes. Only bytes (M.may_leave output.new)) }
-    ensures cause { HasJobCause assembly (record {
-      image = S.left image.old;
-      output = M.told output.old;
-      image_before = S.faults image.old;
-      image_after = S.faults image.new;
-      output_before = M.faults output.old;
-      output_after = M.faults output.new;
-      console_before = K.faults console.old;
-      console_after = K.faults console.new;
-    }) (fault_in result) }
+    ensures cause { (input_old : ℕ) (input_new : ℕ) → HasCause (record { image = S.faults image.old; input = input_old; output = M.faults output.old; console = K.faults console.old }) (record { image = S.faults image.new; input = input_new; output = M.faults output.new; console = K.faults console.new })
+        (assembly_steps (source_state S.Source image.old) (file_state M.Readable output.old)) (fault_in result) }
+    ensures done { IsWorkDone (fault_in result) → (bytes : List ℕ)
+        × WritesAssembly bytes (source_state S.Source image.old) (source_state S.Source image.new) (file_state M.Readable output.old) (file_state M.Readable output.new)
+        × Takes (fault_in result) (assembled_line (length bytes)) (K.taken console.old) (K.taken console.new) }
 
-    ensures silent { IsBeforeConsole (fault_in result) → console.new ≡ console.old }
+    ensures words_stand { IsUsage (fault_in result) → ⊥ }
+    ensures read { ReadsOn (MAX_TEXT + 1) (source_state S.Source image.old) (source_state S.Source image.new) }
     ensures untouched { IsBeforeOutput (fault_in result) → output.new ≡ output.old }
-    ensures unwritten { IsNotEmpty (fault_in result) → (M.told output.new ≡ M.told output.old) × (M.syncs output.new ≡ M.syncs output.old) }
+    ensures not_empty { IsNotEmpty (fault_in result) → Leaves (file_state M.Readable output.old) (file_state M.Readable output.new) }
+    ensures kept { KeepsFull (file_state M.Readable output.old) (file_state M.Readable output.new) }
+    ensures silent { IsBeforeConsole (fault_in result) → console.new ≡ console.old }
     ensures count { K.faults console.old ≤ K.faults console.new }
 {
     let text = read_raw(alloc, image, MAX_TEXT as u32)?;
@@ -53,17 +55,18 @@ pub(crate) fn assemble_image<S: Source, M: Medium, K: Sink>(
 }
 
 // Writes the bytes to an output that is empty, and makes sure of them.
-fn write_whole<M: Medium>(output: &mut M, bytes: &[u8]) -> Result<(), SaveFault>
+fn write_whole<M: Medium>(output: &mut M, bytes: &[u8]) -> Result<(), WriteFault>
     requires { length bytes.now ≤ 2 ^ 30 }
-    ensures ok { OnOk result (IfSome (M.told output.old) (λ before. (before ≡ []) × (M.told output.new ≡ Some bytes.now))) }
-    ensures durable { OnOk result (IfSome (M.told output.new) (λ told. Only told (M.may_leave output.new))) }
-    ensures not_empty { (len : ℕ) → result ≡ Err (not_empty len) → (0 < len) × IfSome (M.told output.old) (λ before. len ≡ length before) × (M.told output.new ≡ M.told output.old) × (M.syncs output.new ≡ M.syncs output.old) }
-    ensures fault { result ≡ Err file_fault → HasRisen (M.faults output.old) (M.faults output.new) }
+    ensures written { OnOk result (IsFilledWith bytes.now (file_state M.Readable output.old) (file_state M.Readable output.new)) }
+    ensures synced { OnOk result (M.syncs output.new ≡ counted (M.syncs output.old)) }
+    ensures durable { OnOk result (IsDurable (file_state M.Readable output.new)) }
+    ensures unwritten { IfErr result (IsUnwritten (file_state M.Readable output.old) (file_state M.Readable output.new)) }
+    ensures kept { KeepsFull (file_state M.Readable output.old) (file_state M.Readable output.new) }
     ensures enough { (result ≡ Err out_of_memory) → ⊥ }
 {
     let len = output.len()?;
     if len > 0 {
-        return Err(SaveFault::NotEmpty(len));
+        return Err(WriteFault::NotEmpty(len));
     }
     if !bytes.is_empty() {
         output.write_at(0, bytes)?;

@@ -6,7 +6,6 @@ mod answer;
 mod arguments;
 mod assembly;
 mod counted;
-mod device_text;
 mod fault_line;
 mod file_medium;
 mod file_source;
@@ -17,6 +16,7 @@ mod parts;
 mod save;
 mod top;
 mod words;
+mod write_fault;
 
 pub use answer::{Answer, Fault};
 pub use arguments::command_words;

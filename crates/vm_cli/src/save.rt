@@ -1,44 +1,22 @@
 ghost use Rattle.std.specs.Prelude.{◌≡◌, ◌<◌, ◌≤◌, ◌+◌, ◌-◌, ◌^◌, ◌++◌, ◌==◌, ℕ, List, [], Some, length, drop, replicate, option_map, IfSome, OnOk, IfOk, IfErr};
 ghost use Rattle.std.specs.List.{list_all};
-ghost use Rattle.medium.specs.Count.{HasRisen};
-ghost use Rattle.medium.specs.Crash.{Only};
+ghost use Rattle.medium.specs.Count.{HasRisen, counted};
+ghost use Rattle.medium.specs.Members.{file_state};
 ghost use Rattle.flat_machine.specs.Machine.{boot};
 ghost use Rattle.vm_cli.specs.FirstSave.{laid, one_page, with_page};
+ghost use Rattle.vm_cli.specs.Jobs.Common.{IsDurable, IsFilledWith};
 ghost use Rattle.file_plan.specs.Layout.{file_of};
-ghost use Rattle.vm_cli.specs.declared.save.SaveFault.TheVariants.{FileFault as file_fault, NotEmpty as not_empty, NoMemory as out_of_memory};
+ghost use Rattle.vm_cli.specs.Write.{IsUnwritten, KeepsFull};
+ghost use Rattle.vm_cli.specs.declared.write_fault.WriteFault.TheVariants.{FileFault as file_fault, NoMemory as out_of_memory};
 
-use crate::device_text::put_boot_devices;
 use crate::head_text::{put_head, put_tail};
+use crate::write_fault::WriteFault;
+use device_state::put_devices;
 use file_plan::Plan;
 use flat_machine::Machine;
-use medium::{Failed, Medium};
+use medium::Medium;
 use ram_block::{NoMemory, PageBuf, Shape};
 use std::alloc::Global;
-
-/// Why an output wasn't written.
-#[derive(Clone, Copy, Debug, PartialEq, Eq)]
-pub(crate) enum SaveFault {
-    FileFault,
-    /// The file holds so many bytes already.
-    NotEmpty(u64),
-    NoMemory,
-}
-
-impl From<Failed> for SaveFault {
-    ghost from_gives = { λ _ e. e ≡ file_fault };
-
-    fn from(_: Failed) -> Self {
-        SaveFault::FileFault
-    }
-}
-
-impl From<NoMemory> for SaveFault {
-    ghost from_gives = { λ _ e. e ≡ out_of_memory };
-
-    fn from(_: NoMemory) -> Self {
-        SaveFault::NoMemory
-    }
-}
 
 // Byte 0 of a file that is whole. Until then it is 0.
 const GATE: u8 = 0x51;
@@ -50,22 +28,22 @@ fn write_pieces<M: Medium>(
     page: &PageBuf,
     head: &[u8],
     tail: &[u8],
-) -> Result<(), SaveFault>
+) -> Result<(), WriteFault>
     requires plan { plan.now ≡ one_page }
     requires some_head { 1 ≤ length head.now }
     requires head { length head.now ≤ 2 ^ 30 }
     requires tail { length tail.now ≤ 2 ^ 30 }
 
-    ensures ok { OnOk result (IfSome (M.told output.old) (λ before. (before ≡ []) × (M.told output.new ≡ Some (laid plan.now page.now head.now tail.now)))) }
-    ensures durable { OnOk result (IfSome (M.told output.new) (λ bytes. Only bytes (M.may_leave output.new))) }
-    ensures not_empty { (len : ℕ) → result ≡ Err (not_empty len) → (0 < len) × IfSome (M.told output.old) (λ before. len ≡ length before) × (M.told output.new ≡ M.told output.old) × (M.syncs output.new ≡ M.syncs output.old) }
-    ensures fault { result ≡ Err file_fault → HasRisen (M.faults output.old) (M.faults output.new) }
+    ensures written { OnOk result (IsFilledWith (laid plan.now page.now head.now tail.now) (file_state M.Readable output.old) (file_state M.Readable output.new)) }
+    ensures synced { OnOk result (M.syncs output.new ≡ counted (counted (counted (M.syncs output.old)))) }
+    ensures durable { OnOk result (IsDurable (file_state M.Readable output.new)) }
+    ensures unwritten { IfErr result (IsUnwritten (file_state M.Readable output.old) (file_state M.Readable output.new)) }
+    ensures kept { KeepsFull (file_state M.Readable output.old) (file_state M.Readable output.new) }
     ensures enough { (result ≡ Err out_of_memory) → ⊥ }
-    ensures count { M.faults output.old ≤ M.faults output.new }
 {
     let len = output.len()?;
     if len > 0 {
-        return Err(SaveFault::NotEmpty(len));
+        return Err(WriteFault::NotEmpty(len));
     }
     output.write_at(0, &[0])?;
     output.sync()?;
@@ -79,9 +57,10 @@ fn write_pieces<M: Medium>(
 }
 
 // Writes a page at its place, unless it is all zeros.
-fn write_page<M: Medium>(output: &mut M, at: u64, page: &PageBuf) -> Result<(), SaveFault>
+fn write_page<M: Medium>(output: &mut M, at: u64, page: &PageBuf) -> Result<(), WriteFault>
     requires { at ≤ 2 ^ 31 }
     ensures told { OnOk result (M.told output.new ≡ option_map (with_page at page.now) (M.told output.old)) }
+    ensures syncs { M.syncs output.new ≡ M.syncs output.old }
     ensures fault { IfErr result (λ e. (e ≡ file_fault) × HasRisen (M.faults output.old) (M.faults output.new)) }
     ensures count { M.faults output.old ≤ M.faults output.new }
 {
@@ -105,36 +84,45 @@ pub(crate) fn save_boot<M: Medium>(
     shape: &Shape,
     image: &[u8],
     output: &mut M,
-) -> Result<(), SaveFault>
+) -> Result<(), WriteFault>
     requires shape { shape.now ≡ one_page }
     requires image { length image.now ≤ 4096 }
 
-    ensures ok { OnOk result (IfSome (M.told output.old) (λ before. (before ≡ []) × (M.told output.new ≡ Some (file_of (boot one_page image.now []))))) }
-    ensures durable { OnOk result (IfSome (M.told output.new) (λ bytes. Only bytes (M.may_leave output.new))) }
-    ensures not_empty { (len : ℕ) → result ≡ Err (not_empty len) → (0 < len) × IfSome (M.told output.old) (λ before. len ≡ length before) × (M.told output.new ≡ M.told output.old) × (M.syncs output.new ≡ M.syncs output.old) }
-    ensures fault { result ≡ Err file_fault → HasRisen (M.faults output.old) (M.faults output.new) }
+    ensures written { OnOk result (IsFilledWith (file_of (boot one_page image.now [])) (file_state M.Readable output.old) (file_state M.Readable output.new)) }
+    ensures synced { OnOk result (M.syncs output.new ≡ counted (counted (counted (M.syncs output.old)))) }
+    ensures durable { OnOk result (IsDurable (file_state M.Readable output.new)) }
+    ensures unwritten { IfErr result (IsUnwritten (file_state M.Readable output.old) (file_state M.Readable output.new)) }
+    ensures kept { KeepsFull (file_state M.Readable output.old) (file_state M.Readable output.new) }
     ensures no_memory { result ≡ Err out_of_memory → output.new ≡ output.old }
-    ensures count { M.faults output.old ≤ M.faults output.new }
 {
     let plan = Plan::of(shape);
-    let page = boot_page(alloc, shape, image)?;
+    let machine = Machine::boot(alloc, *shape, image, &[])?;
+    let devices = put_devices(alloc, &machine)?;
+    let page = only_page(machine);
     let mut head = Vec::new(alloc);
     put_head(&mut head, &plan, &page)?;
     let mut tail = Vec::new(alloc);
     put_tail(&mut tail)?;
-    put_boot_devices(&mut tail)?;
+    put_bytes(&mut tail, &devices)?;
     write_pieces(output, &plan, &page, &head, &tail)
 }
 
-// The one page of the machine at boot.
-fn boot_page(alloc: Global, shape: &Shape, image: &[u8]) -> Result<PageBuf, NoMemory>
-    requires shape { shape.now ≡ one_page }
-    requires image { length image.now ≤ 4096 }
-    ensures { IfOk result (λ page. page ≡ image.now ++ replicate (4096 - length image.now) 0) }
+// Appends bytes to a list.
+fn put_bytes(out: &mut Vec<u8>, bytes: &[u8]) -> Result<(), NoMemory>
+    ensures { OnOk result (out.new.items ≡ out.old.items ++ bytes.now) }
 {
-    let mut ram = Machine::boot(alloc, *shape, image, &[])?.into_parts().ram;
+    out.extend_from_slice(bytes)?;
+    Ok(())
+}
+
+// The one page of a machine.
+fn only_page(machine: Machine) -> PageBuf
+    requires { machine.shape ≡ one_page }
+    ensures { result ≡ machine.ram }
+{
+    let mut ram = machine.into_parts().ram;
     match ram.pop() {
-        Some(page) => Ok(page),
+        Some(page) => page,
         None => unreachable!(),
     }
 }

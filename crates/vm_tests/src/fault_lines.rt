@@ -1,5 +1,5 @@
 use crate::guest::{GUEST, SAVE, elf_of_the_guest};
-use crate::jobs::{failing_from, file, image, serve};
+use crate::jobs::{failing_from, file, image, serve, serve_in_threads};
 use image_file::ElfKind;
 use image_file::ImageRefusal::Elf;
 use medium::MemSource;
@@ -25,10 +25,18 @@ static OTHER_LINES: [(&[&str], Fault, &str); 15] = [
         "fault 1 usage 10 key\n",
     ),
     (&["save", "image=a", "out=b", "pages=2"], Fault::NotYet, "fault 1 not-yet\n"),
-    (&["save", "image=a", "out=b", "pages=1", "mode=threads"], Fault::NotYet, "fault 1 not-yet\n"),
+    (
+        &["save", "image=a", "out=b", "pages=1", "mode=threads"],
+        Fault::Usage { index: 4, kind: UsageKind::NeedsThreads },
+        "fault 1 usage 4 needs-threads\n",
+    ),
     (&["check", "in=a"], Fault::NotYet, "fault 1 not-yet\n"),
     (&["workload", "out=a"], Fault::NotYet, "fault 1 not-yet\n"),
-    (&["record", "image=a", "out=b"], Fault::NotYet, "fault 1 not-yet\n"),
+    (
+        &["record", "image=a", "out=b"],
+        Fault::Usage { index: 0, kind: UsageKind::NeedsThreads },
+        "fault 1 usage 0 needs-threads\n",
+    ),
 ];
 
 #[test]
@@ -39,6 +47,20 @@ fn every_other_line_is_answered_before_the_image(rt: HostRuntime) -> Result<(), 
         let output = file(alloc, &[], failing_from(alloc, 1))?;
         let done = serve(alloc, line, guest, output)?;
         assert_eq!(rt; done.end(), (1, Some(fault), printed));
+    }
+    Ok(())
+}
+
+#[test]
+fn the_call_with_threads_refuses_no_line_for_its_threads(rt: HostRuntime) -> Result<(), Fail> {
+    let alloc = rt.alloc();
+    for line in [
+        ["save", "image=a", "out=b", "pages=1", "mode=threads"].as_slice(),
+        ["record", "image=a", "out=b"].as_slice(),
+    ] {
+        let guest = MemSource::new(GUEST.to_vec(alloc)?, failing_from(alloc, 1));
+        let done = serve_in_threads(&rt, alloc, line, guest)?;
+        assert_eq!(rt; done.end(), (1, Some(Fault::NotYet), "fault 1 not-yet\n"));
     }
     Ok(())
 }

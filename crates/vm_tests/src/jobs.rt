@@ -1,8 +1,9 @@
 ghost use Rattle.std.specs.Prelude.{◌≤◌, length};
 
 use medium::{FailPlan, MemMedium, MemSink, MemSource};
-use ram_block::{NoGate, NoMemory};
+use ram_block::{Gate, NoMemory};
 use std::alloc::{AllocError, Global};
+use std::process::Abort;
 use std::sync::Wait;
 use std::test::Fail;
 use std::thread::Threads;
@@ -104,8 +105,24 @@ pub(crate) fn serve_on(
     })
 }
 
-/// The answer of the call with threads to a line over an empty file.
-pub(crate) fn serve_in_threads<R: Threads + Wait + Sync>(
+/// A gate that nobody may call.
+#[derive(Drop)]
+struct ClosedGate<'a, R> {
+    rt: &'a R,
+}
+
+impl<R: Abort + Sync> Gate for ClosedGate<'_, R> {
+    fn before_turn(&self, n: u32) {
+        assert_eq!(self.rt; n, 0, "a line without threads calls its gate");
+    }
+
+    fn done(&self, k: u32) {
+        assert_eq!(self.rt; k, 8, "a line without threads calls its gate");
+    }
+}
+
+/// The answer of the call with threads to a line over an empty file. It calls no gate.
+pub(crate) fn serve_in_threads<R: Abort + Threads + Wait + Sync>(
     rt: &R,
     alloc: Global,
     line: &[&str],
@@ -124,7 +141,7 @@ pub(crate) fn serve_in_threads<R: Threads + Wait + Sync>(
         &mut input,
         &mut output,
         &mut console,
-        &NoGate,
+        &ClosedGate { rt },
     );
     Ok(Outcome {
         answer,

@@ -4,6 +4,8 @@
 #[cfg(test)]
 mod assembly;
 #[cfg(test)]
+mod calls;
+#[cfg(test)]
 mod fault_lines;
 #[cfg(test)]
 mod first_save;

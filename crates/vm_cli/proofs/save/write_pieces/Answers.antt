@@ -7,9 +7,9 @@ use Rattle.vm_cli.specs.FirstSave.{laid, with_page}
 use Rattle.medium.proofs.Told.{when_told, told_next, told_at}
 use Rattle.vm_cli.proofs.save.write_pieces.Goals as goal
 
-pub returns-clause-ok : goal.returns-clause-ok
+pub returns-clause-written : goal.returns-clause-written
 unfolding laid
-returns-clause-ok g c = when_told _ _ (λ before is.
+returns-clause-written g c = when_told _ _ (λ before is.
     let answer : c.in_ok-len.len ≡ length before = subst (λ (o : Option (List ℕ)). IfSome o (λ bytes. c.in_ok-len.len ≡ length bytes)) is c.in_ok-len.ensures.answer in
     let empty : before ≡ [] = nil_from_length before (omega arith) in (
       empty,

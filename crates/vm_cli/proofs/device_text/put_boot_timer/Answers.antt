@@ -1,8 +1,0 @@
--- The texts of the section, one after another.
-use Rattle.std.proofs.Common.{append_assoc}
-use Rattle.device_state.specs.DeviceText.{timer_section}
-use Rattle.vm_cli.proofs.device_text.put_boot_timer.Goals as goal
-
-pub returns : goal.returns
-unfolding timer_section
-returns c = rw (c.in_ok-put_footer.ensures, c.in_ok-put_be64-2.ensures, c.in_ok-put_be64.ensures, c.in_ok-put_start.ensures) (simp append_assoc)

@@ -1,0 +1,70 @@
+-- The steps that several jobs have, and what more than one job promises (this project's own, docs/COMMAND_LINE.md).
+use Rattle.std.specs.Prelude.{◌≡◌, ◌⊎◌, ℕ, Bool, true, false, nat_lt, List, [], ◌∷◌, ◌++◌, length, Option, Some, None, option_map, IfSome}
+use Rattle.medium.specs.Bytes.{AddsFront, BecomesTold}
+use Rattle.medium.specs.Count.{HasRisen}
+use Rattle.medium.specs.Crash.{Only}
+use Rattle.medium.specs.States.{FileState, SinkState, SourceState}
+use Rattle.vm_cli.specs.FaultLine.{fault_line}
+use Rattle.vm_cli.specs.Parts.{AddsFronts}
+use Rattle.vm_cli.specs.Steps.{Step, Image, Output, Console}
+use Rattle.vm_cli.specs.declared.answer.Fault.{Fault}
+use Rattle.vm_cli.specs.declared.answer.Fault.TheVariants as faults
+
+-- ---- Steps
+
+abbrev pub is_image_refusal : Fault → Bool
+is_image_refusal (faults.ImageRefused refusal) = true
+is_image_refusal _ = false
+
+-- the image is read, to its end or to a limit, and refused as its bytes call for
+abbrev pub read_image_step : (List ℕ → Option Fault) → SourceState → Step
+read_image_step refusal image = record { calls = Some Image; may_refuse = is_image_refusal; verdict = option_map refusal image.left }
+
+abbrev pub is_not_empty : Fault → Bool
+is_not_empty (faults.NotEmpty len) = nat_lt 0 len
+is_not_empty _ = false
+
+-- the fault that the bytes of an output call for
+abbrev pub not_empty_in : List ℕ → Option Fault
+not_empty_in [] = None
+not_empty_in (b ∷ bytes) = Some (faults.NotEmpty (length (b ∷ bytes)))
+
+-- an output is written, unless it has bytes
+abbrev pub write_output_step : FileState → Step
+write_output_step output = record { calls = Some Output; may_refuse = is_not_empty; verdict = option_map not_empty_in output.told }
+
+-- a text is printed
+abbrev pub print_step : Step
+print_step = record { calls = Some Console; may_refuse = λ _. false; verdict = Some None }
+
+-- ---- What was done
+
+-- the input was read to its end, where it tells its bytes
+abbrev pub IsReadWhole : SourceState → SourceState → Type 0
+IsReadWhole old new = IfSome old.left (λ _. new.left ≡ Some [])
+
+-- the file, which was empty, has these bytes
+abbrev pub IsFilledWith : List ℕ → FileState → FileState → Type 0
+IsFilledWith bytes old new = IfSome old.told (λ before. (before ≡ []) × (new.told ≡ Some bytes))
+
+-- a crash now leaves the bytes of the file and nothing else
+abbrev pub IsDurable : FileState → Type 0
+IsDurable file = IfSome file.told (λ bytes. Only bytes file.may_leave)
+
+-- ---- What was printed
+
+-- the text of a job that ended well; a front of it, and then of the fault's line, where a call on the console failed
+abbrev pub Prints : Option Fault → List ℕ → SinkState → SinkState → Type 0
+Prints None text old new = new.taken ≡ option_map (λ before. before ++ text) old.taken
+Prints (Some fault) text old new = BecomesTold (AddsFronts text (fault_line fault)) old.taken new.taken
+
+-- the line of a fault, or a front of it where a call on the console failed
+abbrev pub PrintsLine : Fault → SinkState → SinkState → Type 0
+PrintsLine fault old new =
+    (new.taken ≡ option_map (λ before. before ++ fault_line fault) old.taken)
+    ⊎ (BecomesTold (AddsFront (fault_line fault)) old.taken new.taken × HasRisen old.faults new.faults)
+
+-- the text of a job that ended well, or a front of it where the job ended with a fault, before its line
+abbrev pub Takes : Option Fault → List ℕ → Option (List ℕ) → Option (List ℕ) → Type 0
+Takes None text old new = new ≡ option_map (λ before. before ++ text) old
+Takes (Some fault) text old new = BecomesTold (AddsFront text) old new
