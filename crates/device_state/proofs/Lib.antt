@@ -1,3 +1,16 @@
+pub mod Back
+pub mod Bodies
+pub mod Chains
+pub mod Forth
+pub mod Found
+pub mod Heads
+pub mod Numbers
+pub mod Parts
 pub mod Sections
 pub mod Split
 pub mod Texts
+pub mod Told
+pub mod Values
+pub mod Vcpus
+pub mod WholeBack
+pub mod WholeForth

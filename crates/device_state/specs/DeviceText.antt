@@ -1,13 +1,15 @@
 -- The sections of the devices and the vCPUs in a file (this project's own, docs/FILE_FORMAT.md).
-use Rattle.std.specs.Prelude.{◌≡◌, ℕ, ◌+◌, List, [], ◌∷◌, ◌++◌, length, codes}
+use Rattle.std.specs.Prelude.{◌≡◌, ℕ, ◌+◌, ◌^◌, ◌<◌, ◌≤◌, List, [], ◌∷◌, ◌++◌, length, codes, None, All}
 use Rattle.std.specs.List.{flat_map}
 use Rattle.ram_block.specs.Cause.{code_of}
+use Rattle.ram_block.specs.declared.limits.TheConstants.{MOST_AT_REST}
+use Rattle.ram_block.specs.declared.shape.TheConstants.{MAX_VCPUS}
 use Rattle.mig_stream.specs.Text.{be32, be64, start_text, footer_text}
 use Rattle.mig_stream.specs.declared.put.TheConstants.{FULL, EOF}
-use Rattle.rv64i_step.specs.Vcpu.{VcpuData}
+use Rattle.rv64i_step.specs.Vcpu.{VcpuData, IsVcpu}
 use Rattle.rv64i_step.specs.declared.state.State.{State}
 use Rattle.rv64i_step.specs.declared.state.State.TheVariants.{Running, Halted}
-use Rattle.serial_timer.specs.Serial.{SerialData}
+use Rattle.serial_timer.specs.Serial.{SerialData, IsSerial}
 use Rattle.flat_machine.specs.Machine.{MachineData}
 use Rattle.device_state.specs.declared.format.TheConstants.{CPU_VERSION, FIRST_DEVICE, SERIAL_VERSION, SERIAL_VERSION_WITHOUT_INPUT, TIMER_VERSION}
 
@@ -58,16 +60,50 @@ timer_section vcpus clock cmp =
     start_text FULL (FIRST_DEVICE + 1 + vcpus) (codes "timer") 0 TIMER_VERSION
     ++ (be64 clock ++ (be64 cmp ++ footer_text (FIRST_DEVICE + 1 + vcpus)))
 
--- a serial section of the first version has no input
-abbrev pub HasVersion : SerialVersion → MachineData → Type 0
-HasVersion One m = m.serial.input ≡ []
-HasVersion Two m = Unit {0}
+-- a version tells all that the serial device has: the first has no input
+abbrev pub TellsAll : SerialVersion → SerialData → Type 0
+TellsAll One s = s.input ≡ []
+TellsAll Two s = Unit {0}
+
+-- what a device text tells: the vCPUs, the serial device, the timer's compare value, and the clock
+pub record DevicesData : Type 0 where
+  pub vcpus : List VcpuData
+  pub serial : SerialData
+  pub cmp : ℕ
+  pub clock : ℕ
+
+-- a vCPU as it stands between two phases: nothing is pending, and its steps have room for a phase
+pub record IsResting (v : VcpuData) : Type 0 where
+  pub vcpu : IsVcpu v
+  pub none_pending : v.pending ≡ None
+  pub steps : v.steps ≤ MOST_AT_REST
+
+-- within the limits of a machine at rest
+pub record AreDevices (d : DevicesData) : Type 0 where
+  pub some : 1 ≤ length d.vcpus
+  pub count : length d.vcpus ≤ MAX_VCPUS
+  pub each : All IsResting d.vcpus
+  pub serial : IsSerial d.serial
+  pub cmp : d.cmp < 2 ^ 64
+  pub clock : d.clock ≤ MOST_AT_REST
 
 -- all sections, and the end of the stream
+abbrev pub devices_text : SerialVersion → DevicesData → List ℕ
+devices_text version d =
+    cpu_sections 0 d.vcpus
+    ++ (serial_section version (length d.vcpus) d.serial ++ (timer_section (length d.vcpus) d.clock d.cmp ++ EOF ∷ []))
+
+-- a machine but for its shape and its RAM
+abbrev pub devices_of : MachineData → DevicesData
+devices_of m = record { vcpus = m.vcpus; serial = m.serial; cmp = m.cmp; clock = m.clock }
+
+-- the first version is one of machines that have no input
+abbrev pub HasVersion : SerialVersion → MachineData → Type 0
+HasVersion version m = TellsAll version m.serial
+
+-- the text of a machine's devices
 unfoldable pub device_text : SerialVersion → MachineData → List ℕ
-device_text version m =
-    cpu_sections 0 m.vcpus
-    ++ (serial_section version (length m.vcpus) m.serial ++ (timer_section (length m.vcpus) m.clock m.cmp ++ EOF ∷ []))
+device_text version m = devices_text version (devices_of m)
 
 -- two machines are one but for their shape and their RAM
 pub record SameDevices (m n : MachineData) : Type 0 where

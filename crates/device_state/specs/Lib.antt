@@ -1,1 +1,3 @@
 pub mod DeviceText
+pub mod Reader
+pub mod Reading

@@ -1,5 +1,9 @@
 mod AnyFile
-pub mod Bits
+mod FilePieces
+mod Gaps
+pub mod Heads
+mod OneFile
 mod OneMachine
 pub mod Pieces
 pub mod Records
+pub mod UnderWay

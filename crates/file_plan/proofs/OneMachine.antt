@@ -1,9 +1,8 @@
 -- A file is a layout of one machine at most: its front and its first record tell the shape, its tail the devices, and
 -- its bitmaps and pages the RAM.
-use Rattle.std.proofs.Common.{◌≡◌, inl, inr, ℕ, ◌+◌, ◌*◌, ◌/◌, ◌%◌, ◌^◌, ◌<◌, List, length, get_or, take, drop, refl, sym, ap, ◌∙◌, subst, arith}
-use Rattle.std.proofs.lemmas.Bool.{cases_lt}
+use Rattle.std.proofs.Common.{◌≡◌, inl, inr, true, false, ℕ, ◌+◌, ◌*◌, ◌/◌, ◌%◌, ◌^◌, ◌<◌, List, length, get_or, take, drop, refl, sym, ap, ◌∙◌, subst, arith}
+use Rattle.std.proofs.lemmas.Bool.{cases_Bool}
 use Rattle.std.proofs.lemmas.List.{append_cancel_left, ext_get_or, get_or-take, get_or-drop}
-use Rattle.std.proofs.lemmas.Nat.Bits.{bit_at-lt}
 use Rattle.std.proofs.Math.Nat.{div-lt_iff_lt-mul, mul-div_cancel}
 use Rattle.std.proofs.lemmas.Nat.{mul-le}
 use Rattle.ram_block.specs.Page.{zero_page}
@@ -59,17 +58,14 @@ module _ (s t : ShapeData) (is : IsShape s) (other : IsShape t) (total : be64 (r
 -- a page by its bit: it stands at its place, or is all zeros
 abbrev IsPageOf : List ℕ → ℕ → ℕ → ℕ → List ℕ → Type 0
 IsPageOf file pages block p page =
-    (page_bit file (block_places pages block).bitmap p ≡ 1 → StandsAt file ((block_places pages block).pages + 4096 * p) page)
-    × (page_bit file (block_places pages block).bitmap p ≡ 0 → page ≡ zero_page)
+    (page_bit file (block_places pages block).bitmap p ≡ true → StandsAt file ((block_places pages block).pages + 4096 * p) page)
+    × (page_bit file (block_places pages block).bitmap p ≡ false → page ≡ zero_page)
 
 same_page : (file : List ℕ) (pages block p : ℕ) (one two : List ℕ) → length one ≡ length two → IsPageOf file pages block p one → IsPageOf file pages block p two → one ≡ two
-same_page file pages block p one two len first second =
-    let bit = page_bit file (block_places pages block).bitmap p in
-    let small : bit < 2 = bit_at-lt (get_or file ((block_places pages block).bitmap + p / 8) 0) (p % 8) in
-    elim (cases_lt bit 1) [
-      | inl none ↦ let clear : bit ≡ 0 = omega arith in first.1 clear ∙ sym (second.1 clear)
-      | inr some ↦ let set : bit ≡ 1 = omega arith in same_text file one two ((block_places pages block).pages + 4096 * p) len (first.0 set) (second.0 set)
-    ]
+same_page file pages block p one two len first second = elim (cases_Bool (page_bit file (block_places pages block).bitmap p)) [
+  | inl set ↦ same_text file one two ((block_places pages block).pages + 4096 * p) len (first.0 set) (second.0 set)
+  | inr clear ↦ first.1 clear ∙ sym (second.1 clear)
+]
 
 page_byte : (ram : List ℕ) (p i : ℕ) → i < 4096 → get_or (page_at ram p) i 0 ≡ get_or ram (4096 * p + i) 0
 unfolding page_at

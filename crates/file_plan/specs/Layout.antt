@@ -1,30 +1,46 @@
 -- A snapshot file and the machine that it stands for, by places (this project's own file layout,
 -- docs/FILE_FORMAT.md).
-use Rattle.std.specs.Prelude.{◌≡◌, ℕ, zero, suc, ◌+◌, ◌-◌, ◌*◌, ◌/◌, ◌%◌, ◌^◌, ◌<◌, ◌&&◌, if◌then◌else◌, nat_le, nat_lt, List, [], ◌∷◌, ◌++◌, length, take, drop, map, slice_index, sum_by, codes, ◌==◌}
-use Rattle.std.specs.Int.{bit_at}
+use Rattle.std.specs.Prelude.{◌≡◌, ℕ, zero, suc, ◌+◌, ◌-◌, ◌*◌, ◌<◌, Bool, true, false, not, ◌&&◌, if◌then◌else◌, nat_le, nat_lt, List, [], ◌∷◌, ◌++◌, length, take, drop, map, slice_index, ◌==◌}
 use Rattle.std.specs.List.{range_with_len, list_all}
 use Rattle.ram_block.specs.Page.{zero_page}
 use Rattle.ram_block.specs.Shape.{ShapeData, ram_bytes_of}
 use Rattle.ram_block.specs.declared.page_buf.TheConstants.{PAGE}
+use Rattle.page_bitmap.specs.Bitmap.{bit_in, bytes_of}
 use Rattle.mig_stream.specs.Text.{be32, be64, start_text, part_text, footer_text}
 use Rattle.mig_stream.specs.declared.put.TheConstants.{START, END}
 use Rattle.mapped_ram_header.specs.Header.{header_bytes}
-use Rattle.mapped_ram_header.specs.Places.{bitmap_len}
 use Rattle.file_plan.specs.Plan.{record_place, block_places, tail_place}
 use Rattle.flat_machine.specs.Machine.{IsMachine, MachineData, Rest, page_of}
 use Rattle.device_state.specs.DeviceText.{SerialVersion, Two, HasVersion, device_text}
-use Rattle.file_plan.specs.declared.format.TheConstants.{MAGIC, STREAM_VERSION, CONFIGURATION, RAM_SECTION, RAM_VERSION, TOTAL_FLAG, END_FLAG}
+use Rattle.file_plan.specs.declared.format.TheConstants.{MAGIC, STREAM_VERSION, CONFIGURATION, MACHINE_NAME, RAM_SECTION, RAM_NAME, RAM_VERSION, TOTAL_FLAG, END_FLAG}
+
+-- the configuration: the machine's name after its length
+abbrev pub configuration_text : List ℕ
+configuration_text = CONFIGURATION ∷ (be32 (length MACHINE_NAME) ++ MACHINE_NAME)
 
 -- the front of a file: magic, version, configuration, and the first header of the RAM section with its total
 unfoldable pub front_text : ShapeData → List ℕ
 front_text s =
-    be32 MAGIC ++ (be32 STREAM_VERSION ++ ((CONFIGURATION ∷ (be32 9 ++ codes "rvsnap-64"))
-    ++ (start_text START RAM_SECTION (codes "ram") 0 RAM_VERSION ++ be64 (ram_bytes_of s + TOTAL_FLAG))))
+    be32 MAGIC ++ (be32 STREAM_VERSION ++ (configuration_text
+    ++ (start_text START RAM_SECTION RAM_NAME 0 RAM_VERSION ++ be64 (ram_bytes_of s + TOTAL_FLAG))))
 
--- the record of a block: its name, its used length, and its mapped-ram header
+-- the name of a block: that of the RAM and the digit of the block
+abbrev pub block_name : ℕ → List ℕ
+block_name block = RAM_NAME ++ (48 + block) ∷ []
+
+-- the record of a block: its name after its length, its used length, and its mapped-ram header
 unfoldable pub record_text : ShapeData → ℕ → List ℕ
 record_text s block =
-    (4 ∷ (codes "ram" ++ (48 + block) ∷ [])) ++ (be64 (PAGE * s.pages) ++ header_bytes (block_places s.pages block))
+    (length (block_name block) ∷ block_name block) ++ (be64 (PAGE * s.pages) ++ header_bytes (block_places s.pages block))
+
+-- what the head piece of a block has before the record
+abbrev pub front_part : ShapeData → ℕ → List ℕ
+front_part s zero = front_text s
+front_part s (suc block) = []
+
+-- the head piece of a block with these bits: for the first the front of the file, then the record and the bitmap
+unfoldable pub head_text : ShapeData → ℕ → List Bool → List ℕ
+head_text s block bits = front_part s block ++ (record_text s block ++ bytes_of s.pages bits)
 
 -- what stands between the pages and the device text: the end of the setup, and the end of the RAM section
 unfoldable pub tail_text : List ℕ
@@ -35,14 +51,14 @@ abbrev pub StandsAt : List ℕ → ℕ → List ℕ → Type 0
 StandsAt file at bytes = take (length bytes) (drop at file) ≡ bytes
 
 -- the bit of page p in the bitmap at this place
-abbrev pub page_bit : List ℕ → ℕ → ℕ → ℕ
-page_bit file bitmap p = bit_at (slice_index file (bitmap + p / 8)) (p % 8)
+abbrev pub page_bit : List ℕ → ℕ → ℕ → Bool
+page_bit file bitmap p = bit_in (drop bitmap file) p
 
 -- page p of a block: it stands at its place, where its bit is set, and else is all zeros
 pub record LaysPage (file : List ℕ) (m : MachineData) (block p : ℕ) : Type 0 where
-  pub stands : page_bit file (block_places m.shape.pages block).bitmap p ≡ 1 →
+  pub stands : page_bit file (block_places m.shape.pages block).bitmap p ≡ true →
       StandsAt file ((block_places m.shape.pages block).pages + PAGE * p) (page_of m (block * m.shape.pages + p))
-  pub zeros : page_bit file (block_places m.shape.pages block).bitmap p ≡ 0 →
+  pub zeros : page_bit file (block_places m.shape.pages block).bitmap p ≡ false →
       page_of m (block * m.shape.pages + p) ≡ zero_page
 
 -- what a file says of the shape alone: its front, and the record of each block
@@ -70,15 +86,17 @@ byte_in [] k = 0
 byte_in (piece ∷ pieces) k =
     if nat_le piece.at k && nat_lt k (piece.at + length piece.bytes) then slice_index piece.bytes (k - piece.at) else byte_in pieces k
 
--- 1 for a page of the block that isn't all zeros, else 0
-abbrev pub saved_bit : MachineData → ℕ → ℕ → ℕ
-saved_bit m block p =
-    if nat_lt p m.shape.pages then (if list_all (λ b. b == 0) (page_of m (block * m.shape.pages + p)) then 0 else 1) else 0
+-- whether a page, counted over all blocks, isn't all zeros
+abbrev pub is_saved : MachineData → ℕ → Bool
+is_saved m p = not (list_all (λ b. b == 0) (page_of m p))
 
--- a bitmap: page p is bit p mod 8 of byte p / 8
+-- a bit for each page of a block: set where the page isn't all zeros
+abbrev pub saved_bits : MachineData → ℕ → List Bool
+saved_bits m block = map (λ p. is_saved m (block * m.shape.pages + p)) (range_with_len 0 m.shape.pages)
+
+-- the bytes of that bitmap
 unfoldable pub bitmap_of : MachineData → ℕ → List ℕ
-bitmap_of m block =
-    map (λ i. sum_by (λ b. saved_bit m block (8 * i + b) * 2 ^ b) (range_with_len 0 8)) (range_with_len 0 (bitmap_len m.shape.pages))
+bitmap_of m block = bytes_of m.shape.pages (saved_bits m block)
 
 -- the RAM of a block
 abbrev pub block_ram : MachineData → ℕ → List ℕ

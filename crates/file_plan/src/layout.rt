@@ -14,3 +14,9 @@ pub fn a_file_is_a_layout_of_one_machine()
 pub fn file_of_is_a_layout()
     ensures { (m : MachineData) → IsMachine m → Rest m → Lay (file_of m) m }
 {}
+
+/// The law that two machines at rest which have one file are one.
+#[tactic(auto, using(crate::proofs::OneFile::one_file))]
+pub fn a_file_tells_its_machine()
+    ensures { (m n : MachineData) → IsMachine m → Rest m → IsMachine n → Rest n → file_of m ≡ file_of n → m ≡ n }
+{}

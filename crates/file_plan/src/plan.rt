@@ -1,7 +1,10 @@
-ghost use Rattle.std.specs.Prelude.{◌≡◌, ◌≤◌, ◌<◌, ◌+◌, ◌^◌};
+ghost use Rattle.std.specs.Prelude.{◌≡◌, ◌≤◌, ◌<◌, ◌+◌, ◌++◌, ◌^◌, Bool, List, length};
 ghost use Rattle.file_plan.specs.Plan.{record_place};
 
+use crate::texts::{front, record};
+use crate::{FRONT_LEN, RECORD_LEN};
 use mapped_ram_header::{Places, places};
+use page_bitmap::Bitmap;
 use ram_block::{PAGE, Shape};
 use std::marker::Model;
 
@@ -29,7 +32,9 @@ impl Model for Plan {
 
 impl Plan {
     ghost use Rattle.ram_block.specs.Shape.{total_pages_of};
-    ghost use Rattle.file_plan.specs.Plan.{record_place, block_places, page_place, tail_place};
+    ghost use Rattle.page_bitmap.specs.Bitmap.{byte_len_of, bytes_of};
+    ghost use Rattle.file_plan.specs.Plan.{record_place, block_places, page_place, tail_place, head_place, head_len_of};
+    ghost use Rattle.file_plan.specs.Layout.{head_text, record_text};
 
     pub fn of(shape: &Shape) -> Plan
         ensures { result ≡ shape.now }
@@ -72,6 +77,60 @@ impl Plan {
         ensures small { result ≤ 2 ^ 30 }
     {
         record_after(self.shape.blocks(), self.shape.pages())
+    }
+
+    /// Where the head piece of a block begins: that of the first block at the file's start.
+    pub fn head_at(&self, block: u32) -> u64
+        requires { block < self.now.blocks }
+        ensures place { result ≡ head_place self.now block }
+        ensures small { result ≤ 2 ^ 30 }
+    {
+        if block == 0 { 0 } else { self.record_at(block) }
+    }
+
+    /// How many bytes the head piece of a block has.
+    #[tactic(auto, using(crate::proofs::Heads::length_head))]
+    pub fn head_len(&self, block: u32) -> usize
+        requires { block < self.now.blocks }
+        ensures len { result ≡ head_len_of self.now.pages block }
+        ensures text { (bits : List Bool) → length (head_text self.now block bits) ≡ result }
+        ensures small { result ≤ 344 }
+    {
+        let record = RECORD_LEN + 8 * self.shape.pages().div_ceil(64) as usize;
+        if block == 0 {
+            FRONT_LEN + record
+        } else {
+            record
+        }
+    }
+
+    /// Writes the head piece of a block: for the first the front of the file, then the record and the bitmap.
+    #[tactic(auto, using(crate::proofs::Heads::first_head, crate::proofs::Heads::later_head))]
+    pub fn put_head(&self, block: u32, bits: &Bitmap, out: &mut [u8])
+        requires block { block < self.now.blocks }
+        requires bits { bits.now.pages ≡ self.now.pages }
+        requires out { length out.old ≡ head_len_of self.now.pages block }
+        ensures { out.new ≡ head_text self.now block bits.now.bits }
+    {
+        if block == 0 {
+            let (start, rest) = out.split_at_mut(FRONT_LEN);
+            start.copy_from_slice(&front(&self.shape));
+            self.put_record(0, bits, rest);
+        } else {
+            self.put_record(block, bits, out);
+        }
+    }
+
+    // Writes the record and the bitmap of a block.
+    fn put_record(&self, block: u32, bits: &Bitmap, out: &mut [u8])
+        requires block { block < self.now.blocks }
+        requires bits { bits.now.pages ≡ self.now.pages }
+        requires out { length out.old ≡ RECORD_LEN + byte_len_of self.now.pages }
+        ensures { out.new ≡ record_text self.now block ++ bytes_of self.now.pages bits.now.bits }
+    {
+        let (start, rest) = out.split_at_mut(RECORD_LEN);
+        start.copy_from_slice(&record(&self.shape, block, &self.places(block)));
+        bits.put_bytes(rest);
     }
 }
 

@@ -3,13 +3,14 @@
 
 use ram_block::NoGate;
 use std::process::ExitCode;
-use vm_cli::{FileMedium, FileSource, Opening, OutSink, command_words, rvsnap};
+use vm_cli::{FileMedium, FileSource, Opening, OutSink, StandardHold, command_words, rvsnap};
 use vm_words::value_of;
 
 /// The exit status where memory for the words of the line is refused.
 const NO_MEMORY: u8 = 7;
 
 fn main(rt: HostRuntime) -> ExitCode {
+    let _held = StandardHold::new(&rt);
     let Ok(words) = command_words(&rt, rt.alloc()) else {
         return ExitCode::from(NO_MEMORY);
     };

@@ -1,17 +1,18 @@
 -- What a save of one block and one page leaves of an empty file is the file of its machine.
-use Rattle.std.proofs.Common.{◌≡◌, ℕ, ◌+◌, ◌-◌, ◌*◌, ◌<◌, ◌≤◌, List, [], ◌∷◌, ◌++◌, length, get_or, refl, sym, ap, ◌∙◌, arith, length-append}
-use Rattle.std.specs.Prelude.{Bool, true, false, ◌^◌, ◌==◌, nat_lt, if◌then◌else◌, replicate, map, sum_by}
+use Rattle.std.proofs.Common.{◌≡◌, ℕ, ◌+◌, ◌-◌, ◌<◌, ◌≤◌, List, [], ◌∷◌, ◌++◌, length, get_or, refl, sym, ap, ◌∙◌, arith, length-append}
+use Rattle.std.specs.Prelude.{Bool, not, ◌==◌, replicate, map}
 use Rattle.std.specs.List.{range_with_len, list_all}
 use Rattle.std.proofs.lemmas.List.{ext_get_or, take_all, length-replicate}
 use Rattle.std.proofs.lemmas.List.FromFn.{length-map-range_with_len, get_or-map-range_with_len}
+use Rattle.page_bitmap.specs.Bitmap.{bytes_of}
 use Rattle.file_plan.specs.Plan.{record_place, page_place, tail_place}
 use Rattle.ram_block.specs.Shape.{ShapeData}
 use Rattle.flat_machine.specs.Machine.{MachineData, boot, page_of}
 use Rattle.flat_machine.specs.Page.{page_at as machine_page}
 use Rattle.vm_cli.specs.FirstSave.{one_page}
 use Rattle.device_state.specs.DeviceText.{Two, cpu_section, serial_section, timer_section, device_text}
-use Rattle.file_plan.specs.Layout.{Piece, front_text, record_text, tail_text, bitmap_of, block_ram, byte_in, pieces_of, pieces_from, last_piece, file_of}
-use Rattle.vm_cli.specs.FirstSave.{laid, first_head, first_bitmap}
+use Rattle.file_plan.specs.Layout.{Piece, front_text, record_text, head_text, tail_text, saved_bits, bitmap_of, block_ram, byte_in, pieces_of, pieces_from, last_piece, file_of}
+use Rattle.vm_cli.specs.FirstSave.{laid, first_head}
 use Rattle.vm_cli.proofs.Pieces.{head, laid_out, whole, same_byte, length-whole}
 
 page_at : page_place 1 0 ≡ 0x10_0000
@@ -30,14 +31,6 @@ length-record : length (record_text one_page 0) ≡ 41
 unfolding record_text record_place
 length-record = refl
 
--- a bitmap of one page, which is all zeros or isn't
-abbrev bitmap_with : Bool → List ℕ
-bitmap_with zeros = map (λ i. sum_by (λ b. (if nat_lt (8 * i + b) 1 then (if zeros then 0 else 1) else 0) * 2 ^ b) (range_with_len 0 8)) (range_with_len 0 8)
-
-only_bit : (zeros : Bool) → (if zeros then 0 else 1) ∷ replicate 7 0 ≡ bitmap_with zeros
-only_bit true = refl
-only_bit false = refl
-
 -- the machine of the first save, and the pieces of its file
 module _ (image page : List ℕ) (fits : length image ≤ 4096) (is : page ≡ image ++ replicate (4096 - length image) 0) where
   abbrev machine : MachineData
@@ -55,9 +48,9 @@ module _ (image page : List ℕ) (fits : length image ≤ 4096) (is : page ≡ i
   page_is = take_all 4096 (image ++ replicate (4096 - length image) 0) (omega (arith, ap length is, length-page)) ∙ sym is
 
   -- the page's bit is set exactly where it isn't all zeros
-  bitmap_is : first_bitmap page ≡ bitmap_of machine 0
-  unfolding bitmap_of boot
-  bitmap_is = only_bit (list_all (λ b. b == 0) page) ∙ ap (λ (l : List ℕ). bitmap_with (list_all (λ b. b == 0) l)) (sym page_is)
+  bits_are : not (list_all (λ b. b == 0) page) ∷ [] ≡ saved_bits machine 0
+  unfolding boot
+  bits_are = ap (λ (l : List ℕ). not (list_all (λ b. b == 0) l) ∷ []) (sym page_is)
 
   page_fits : page_place 1 0 + length page ≡ tail_place one_page
   page_fits = omega (arith, page_at, tail_at, length-page)
@@ -85,8 +78,8 @@ module _ (image page : List ℕ) (fits : length image ≤ 4096) (is : page ≡ i
   written_file = whole (front_text one_page) (record_text one_page 0) (bitmap_of machine 0) page tail (page_place 1 0) (tail_place one_page) length-front length-record length-bitmap page_fits pages_past
 
   head_is : first_head page ≡ front_text one_page ++ (record_text one_page 0 ++ bitmap_of machine 0)
-  unfolding first_head
-  head_is = ap (λ (l : List ℕ). front_text one_page ++ (record_text one_page 0 ++ l)) bitmap_is
+  unfolding first_head head_text bitmap_of boot
+  head_is = ap (λ (bits : List Bool). front_text one_page ++ (record_text one_page 0 ++ bytes_of 1 bits)) bits_are
 
   laid_is : laid one_page page (first_head page) tail ≡ written_file
   unfolding laid
@@ -122,7 +115,7 @@ module _ (image page : List ℕ) (fits : length image ≤ 4096) (is : page ≡ i
       each i within ∙ sym (get_or-map-range_with_len (byte_in (pieces_of machine)) 0 size i i 0 within (omega arith))) ∙ sym file_is
 
 pub length-first_head : (page : List ℕ) → length (first_head page) ≡ 96
-unfolding first_head front_text record_text record_place
+unfolding first_head head_text front_text record_text record_place
 length-first_head page = refl
 
 -- the devices of a machine at boot don't depend on its image

@@ -1,12 +1,12 @@
 -- What the writes of a save of one block and one page make of an empty file, and when they come
 -- (this project's own file layout and order of writes, docs/FILE_FORMAT.md).
-use Rattle.std.specs.Prelude.{ℕ, List, [], ◌∷◌, ◌++◌, drop, replicate, if◌then◌else◌, ◌==◌}
+use Rattle.std.specs.Prelude.{ℕ, List, [], ◌∷◌, not, drop, if◌then◌else◌, ◌==◌}
 use Rattle.std.specs.List.{list_all}
 use Rattle.medium.specs.Bytes.{written}
 use Rattle.file_plan.specs.Plan.{page_place, tail_place}
 use Rattle.ram_block.specs.Shape.{ShapeData}
 use Rattle.serial_timer.specs.Serial.{SerialData}
-use Rattle.file_plan.specs.Layout.{front_text, record_text}
+use Rattle.file_plan.specs.Layout.{head_text}
 
 -- the shape of the first save: one vCPU, one block, one page
 abbrev pub one_page : ShapeData
@@ -25,10 +25,6 @@ unfoldable pub laid : ShapeData → List ℕ → List ℕ → List ℕ → List 
 laid s page head tail =
     written 0 (0x51 ∷ []) (written (tail_place s) tail (written 1 (drop 1 head) (with_page (page_place s.pages 0) page (written 0 (0 ∷ []) []))))
 
--- the bitmap of one page
-abbrev pub first_bitmap : List ℕ → List ℕ
-first_bitmap page = (if list_all (λ b. b == 0) page then 0 else 1) ∷ replicate 7 0
-
--- the head of the file of a machine of one block and one page: the front, the record and the bitmap
+-- the head of the file of a machine of one block and one page: its bit is set where the page isn't all zeros
 unfoldable pub first_head : List ℕ → List ℕ
-first_head page = front_text one_page ++ (record_text one_page 0 ++ first_bitmap page)
+first_head page = head_text one_page 0 (not (list_all (λ b. b == 0) page) ∷ [])

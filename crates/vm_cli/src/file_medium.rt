@@ -1,9 +1,11 @@
 ghost use Rattle.std.specs.Prelude.{◌≡◌, ◌≤◌, None, length, IfOk};
 
 use crate::counted::count_fault;
+use crate::real_file::{go_to, open_apart, read_whole, whole_len};
 use medium::{Failed, Medium, Readable};
 use std::fs::{File, OpenFile};
-use std::io::{Read, Seek, SeekFrom, Write};
+use std::io::Write;
+use std::os::fd::AsRawFd;
 use std::rt::Files;
 
 /// How a file is opened.
@@ -26,7 +28,10 @@ pub struct FileMedium<'a, R: Files> {
     syncs: u64,
 }
 
-impl<'a, R: Files> FileMedium<'a, R> {
+impl<'a, R: Files> FileMedium<'a, R>
+where
+    R::File: AsRawFd,
+{
     pub fn new(rt: &'a R, path: Option<&'a str>, opening: Opening) -> Self {
         FileMedium {
             rt,
@@ -50,7 +55,7 @@ impl<'a, R: Files> FileMedium<'a, R> {
                 how.write(true);
                 how.create(true);
             }
-            self.file = Some(how.open(self.rt, path).map_err(|_| Failed)?);
+            self.file = Some(open_apart(self.rt, path, &how)?);
         }
         Ok(())
     }
@@ -61,8 +66,7 @@ impl<'a, R: Files> FileMedium<'a, R> {
     {
         self.open()?;
         let file = self.file.as_mut().ok_or(Failed)?;
-        let metadata = file.metadata().map_err(|_| Failed)?;
-        Ok(metadata.len())
+        whole_len(file)
     }
 
     fn try_read_at(&mut self, at: u64, buf: &mut [u8]) -> Result<usize, Failed>
@@ -72,7 +76,7 @@ impl<'a, R: Files> FileMedium<'a, R> {
     {
         self.open()?;
         let file = self.file.as_mut().ok_or(Failed)?;
-        file.seek(SeekFrom::Start(at)).map_err(|_| Failed)?;
+        go_to(file, at)?;
         read_whole(file, buf)
     }
 
@@ -82,7 +86,7 @@ impl<'a, R: Files> FileMedium<'a, R> {
     {
         self.open()?;
         let file = self.file.as_mut().ok_or(Failed)?;
-        file.seek(SeekFrom::Start(at)).map_err(|_| Failed)?;
+        go_to(file, at)?;
         file.write_all(bytes).map_err(|_| Failed)
     }
 
@@ -96,22 +100,10 @@ impl<'a, R: Files> FileMedium<'a, R> {
     }
 }
 
-// Fills the buffer, or as much of it as there is.
-fn read_whole<F: Read>(file: &mut F, buf: &mut [u8]) -> Result<usize, Failed>
-    ensures { IfOk result (λ n. n ≤ length buf.new) }
+impl<R: Files> Readable for FileMedium<'_, R>
+where
+    R::File: AsRawFd,
 {
-    let mut filled = 0;
-    while filled < buf.len() {
-        let n = file.read(&mut buf[filled..]).map_err(|_| Failed)?;
-        if n == 0 {
-            break;
-        }
-        filled += n;
-    }
-    Ok(filled)
-}
-
-impl<R: Files> Readable for FileMedium<'_, R> {
     ghost told = { λ _. None };
 
     ghost faults = { λ m. m.faults };
@@ -141,7 +133,10 @@ impl<R: Files> Readable for FileMedium<'_, R> {
     ghost only_now = { λ _ _ _. tt };
 }
 
-impl<R: Files> Medium for FileMedium<'_, R> {
+impl<R: Files> Medium for FileMedium<'_, R>
+where
+    R::File: AsRawFd,
+{
     #[tactic(auto, using(crate::proofs::Torn::torn_anything))]
     fn write_at(&mut self, at: u64, bytes: &[u8]) -> Result<(), Failed> {
         let outcome = self.try_write_at(at, bytes);

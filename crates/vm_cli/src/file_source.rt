@@ -1,9 +1,10 @@
 ghost use Rattle.std.specs.Prelude.{◌≡◌, ◌≤◌, None, length, IfOk};
 
 use crate::counted::count_fault;
+use crate::real_file::{open_apart, read_some};
 use medium::{Failed, Source};
-use std::fs;
-use std::io::Read;
+use std::fs::File;
+use std::os::fd::AsRawFd;
 use std::rt::Files;
 
 /// A file that is read from its start to its end, opened at the first call. Without a path each call fails.
@@ -15,7 +16,10 @@ pub struct FileSource<'a, R: Files> {
     faults: u64,
 }
 
-impl<'a, R: Files> FileSource<'a, R> {
+impl<'a, R: Files> FileSource<'a, R>
+where
+    R::File: AsRawFd,
+{
     pub fn new(rt: &'a R, path: Option<&'a str>) -> Self {
         FileSource {
             rt,
@@ -31,14 +35,17 @@ impl<'a, R: Files> FileSource<'a, R> {
     {
         if self.file.is_none() {
             let path = self.path.ok_or(Failed)?;
-            self.file = Some(fs::open(self.rt, path).map_err(|_| Failed)?);
+            self.file = Some(open_apart(self.rt, path, File::options().read(true))?);
         }
         let file = self.file.as_mut().ok_or(Failed)?;
-        file.read(buf).map_err(|_| Failed)
+        read_some(file, buf)
     }
 }
 
-impl<R: Files> Source for FileSource<'_, R> {
+impl<R: Files> Source for FileSource<'_, R>
+where
+    R::File: AsRawFd,
+{
     ghost left = { λ _. None };
 
     ghost faults = { λ s. s.faults };

@@ -1,25 +1,22 @@
-ghost use Rattle.std.specs.Prelude.{◌≡◌, ◌<◌, ◌≤◌, ◌+◌, ◌-◌, ◌^◌, ◌++◌, ◌==◌, ℕ, List, [], Some, length, drop, replicate, option_map, IfSome, OnOk, IfOk, IfErr};
+ghost use Rattle.std.specs.Prelude.{◌≡◌, ◌<◌, ◌≤◌, ◌+◌, ◌-◌, ◌^◌, ◌++◌, ◌==◌, not, ℕ, List, [], ◌∷◌, Some, length, drop, replicate, option_map, IfSome, OnOk, IfOk, IfErr};
 ghost use Rattle.std.specs.List.{list_all};
 ghost use Rattle.medium.specs.Count.{HasRisen, counted};
 ghost use Rattle.medium.specs.Members.{file_state};
 ghost use Rattle.flat_machine.specs.Machine.{boot};
-ghost use Rattle.vm_cli.specs.FirstSave.{laid, one_page, with_page};
+ghost use Rattle.vm_cli.specs.FirstSave.{first_head, laid, one_page, with_page};
 ghost use Rattle.vm_cli.specs.Jobs.Common.{IsDurable, IsFilledWith};
-ghost use Rattle.file_plan.specs.Layout.{file_of};
+ghost use Rattle.file_plan.specs.Layout.{file_of, tail_text};
 ghost use Rattle.vm_cli.specs.Write.{IsUnwritten, KeepsFull};
 ghost use Rattle.vm_cli.specs.declared.write_fault.WriteFault.TheVariants.{FileFault as file_fault, NoMemory as out_of_memory};
 
-use crate::head_text::{put_head, put_tail};
 use crate::write_fault::WriteFault;
 use device_state::put_devices;
-use file_plan::Plan;
+use file_plan::{GATE, Plan, tail};
 use flat_machine::Machine;
 use medium::Medium;
+use page_bitmap::Bitmap;
 use ram_block::{NoMemory, PageBuf, Shape};
 use std::alloc::Global;
-
-// Byte 0 of a file that is whole. Until then it is 0.
-const GATE: u8 = 0x51;
 
 /// Writes the pieces of a file of one block and one page, in the order that leaves a crash no half file.
 fn write_pieces<M: Medium>(
@@ -99,20 +96,43 @@ pub(crate) fn save_boot<M: Medium>(
     let machine = Machine::boot(alloc, *shape, image, &[])?;
     let devices = put_devices(alloc, &machine)?;
     let page = only_page(machine);
-    let mut head = Vec::new(alloc);
-    put_head(&mut head, &plan, &page)?;
-    let mut tail = Vec::new(alloc);
-    put_tail(&mut tail)?;
-    put_bytes(&mut tail, &devices)?;
-    write_pieces(output, &plan, &page, &head, &tail)
+    let head = head_of(alloc, &plan, &page)?;
+    let rest = tail_of(alloc, &devices)?;
+    write_pieces(output, &plan, &page, &head, &rest)
 }
 
-// Appends bytes to a list.
-fn put_bytes(out: &mut Vec<u8>, bytes: &[u8]) -> Result<(), NoMemory>
-    ensures { OnOk result (out.new.items ≡ out.old.items ++ bytes.now) }
+// The head of the file.
+#[tactic(auto, unfolding(crate::specs::FirstSave::first_head))]
+fn head_of(alloc: Global, plan: &Plan, page: &PageBuf) -> Result<Vec<u8>, NoMemory>
+    requires { plan.now ≡ one_page }
+    ensures { IfOk result (λ head. head.items ≡ first_head page.now) }
 {
-    out.extend_from_slice(bytes)?;
-    Ok(())
+    let bits = bits_of(alloc, page)?;
+    let mut head = vec![in alloc; 0; plan.head_len(0)]?;
+    plan.put_head(0, &bits, &mut head);
+    Ok(head)
+}
+
+// The bitmap of the one page: its bit is set where the page isn't all zeros.
+fn bits_of(alloc: Global, page: &PageBuf) -> Result<Bitmap, NoMemory>
+    ensures { IfOk result (λ bits. bits ≡ record { pages = 1; bits = not (list_all (λ b. b == 0) page.now) ∷ [] }) }
+{
+    let zeros = is_zero(page.bytes());
+    let mut bits = Bitmap::new(alloc, 1)?;
+    if !zeros {
+        bits.set(0);
+    }
+    Ok(bits)
+}
+
+// What stands behind the page.
+fn tail_of(alloc: Global, devices: &[u8]) -> Result<Vec<u8>, NoMemory>
+    ensures { IfOk result (λ text. text.items ≡ tail_text ++ devices.now) }
+{
+    let mut text = Vec::new(alloc);
+    text.extend_from_slice(&tail())?;
+    text.extend_from_slice(devices)?;
+    Ok(text)
 }
 
 // The one page of a machine.

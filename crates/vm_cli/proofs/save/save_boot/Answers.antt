@@ -19,16 +19,13 @@ machine_is : (g : _) (c : After-deref-3 g) → c.in_ok-machine.machine ≡ boot 
 machine_is g c = c.in_ok-machine.ensures.boot ∙ ap (λ (s : ShapeData). boot s c.args.image.now []) c.requires.shape
 
 head_is : (g : _) (c : After-deref-3 g) → c.deref-2.result.now ≡ first_head c.only_page-page.result
-head_is g c = c.deref-2.ensures.value ∙ c.in_ok-put_head.ensures ∙ ap (λ (l : List ℕ). l ++ first_head c.only_page-page.result) c.new-head.ensures.items
+head_is g c = c.deref-2.ensures.value ∙ c.in_ok-head.ensures
 
 devices_are : (g : _) (c : After-deref-3 g) → c.deref.result.now ≡ device_text Two (boot one_page [] [])
 devices_are g c = c.deref.ensures.value ∙ c.in_ok-devices.ensures ∙ ap (device_text Two) (machine_is g c) ∙ devices_of_boot c.args.image.now
 
 tail_is : (g : _) (c : After-deref-3 g) → c.deref-3.result.now ≡ tail_text ++ device_text Two (boot one_page [] [])
-tail_is g c =
-    c.deref-3.ensures.value ∙ c.in_ok-put_bytes.ensures
-    ∙ ap (λ (l : List ℕ). l ++ c.deref.result.now) (c.in_ok-put_tail.ensures ∙ ap (λ (l : List ℕ). l ++ tail_text) c.new-tail.ensures.items)
-    ∙ ap (λ (l : List ℕ). tail_text ++ l) (devices_are g c)
+tail_is g c = c.deref-3.ensures.value ∙ c.in_ok-rest.ensures ∙ ap (λ (l : List ℕ). tail_text ++ l) (devices_are g c)
 
 pub write_pieces-requires-clause-some_head : goal.write_pieces-requires-clause-some_head
 write_pieces-requires-clause-some_head g c = omega (arith, ap length (head_is g c), length-first_head c.only_page-page.result)
