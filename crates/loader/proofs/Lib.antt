@@ -1,0 +1,17 @@
+pub mod Backward
+pub mod BackwardRam
+pub mod BackwardFrame
+pub mod Blocks
+pub mod CutPages
+pub mod EitherOr
+pub mod Forward
+pub mod ForwardFrame
+pub mod ForwardRam
+pub mod Last
+pub mod Lays
+pub mod Lengths
+pub mod Limits
+pub mod PagesRead
+pub mod RamPages
+pub mod Texts
+pub mod Whole
