@@ -1,0 +1,3 @@
+pub mod Hex
+pub mod Ram
+pub mod Report
