@@ -5,6 +5,8 @@
 #[cfg(test)]
 mod guest;
 #[cfg(test)]
+mod phases;
+#[cfg(test)]
 mod refusals;
 #[cfg(test)]
 mod results;
