@@ -1,0 +1,16 @@
+pub mod ZeroWords
+pub mod JoinedBits
+pub mod Limits
+pub mod Courses
+pub mod Calls
+pub mod Results
+pub mod Torn
+pub mod Chains
+pub mod Ranges
+pub mod Finished
+pub mod Taken
+pub mod DeviceText
+pub mod Begun
+pub mod Freed
+pub mod Instant
+pub mod Faults

@@ -1,0 +1,9 @@
+pub mod Saver
+pub mod Inside
+pub mod Writes
+pub mod Steps
+pub mod Save
+pub mod Members
+pub mod Begin
+pub mod Turn
+pub mod Release
