@@ -7,3 +7,4 @@ pub mod JobLimits
 pub mod NoFaults
 pub mod Numerals
 pub mod Prefixes
+pub mod DrawBytes

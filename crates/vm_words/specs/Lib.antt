@@ -8,3 +8,4 @@ pub mod Line
 pub mod Number
 pub mod Turns
 pub mod Word
+pub mod Workload

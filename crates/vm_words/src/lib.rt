@@ -16,6 +16,7 @@ mod line;
 mod number;
 mod turns;
 mod value;
+mod workload;
 
 pub(crate) use command::CommandName;
 pub use fault::{UsageKind, WordsFault};
@@ -26,6 +27,7 @@ pub(crate) use key::{KeyName, Quantity};
 pub use line::line_of;
 pub use turns::{MAX_TURNS, TurnOf, Turns};
 pub use value::value_of;
+pub use workload::workload_image;
 
 #[cfg(test)]
 mod tests;
