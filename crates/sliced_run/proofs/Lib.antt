@@ -1,0 +1,10 @@
+pub mod Turns
+pub mod CpuTurns
+pub mod SaverTurns
+pub mod SaverCourses
+pub mod Rounds
+pub mod Files
+pub mod Taken
+pub mod Syncs
+pub mod SaverCalls
+pub mod Ends

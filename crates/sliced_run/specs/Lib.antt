@@ -1,0 +1,3 @@
+pub mod CoreRun
+pub mod Sliced
+pub mod Phase
