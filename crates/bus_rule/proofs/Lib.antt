@@ -1,0 +1,16 @@
+pub mod Asks
+pub mod Clauses
+pub mod Dues
+pub mod Ends
+pub mod Events
+pub mod Faulted
+pub mod Joined
+pub mod Lists
+pub mod Locked
+pub mod Marks
+pub mod Picks
+pub mod Placed
+pub mod Seats
+pub mod Steps
+pub mod Tasks
+pub mod Told

@@ -1,0 +1,10 @@
+pub mod Clauses
+pub mod Ended
+pub mod Faults
+pub mod Kept
+pub mod Locks
+pub mod Order
+pub mod Plays
+pub mod Story
+pub mod Tells
+pub mod Views
