@@ -1,0 +1,16 @@
+pub mod CellKinds
+pub mod Moved
+pub mod Stops
+pub mod Turned
+pub mod Picked
+pub mod Released
+pub mod Plants
+pub mod Lists
+pub mod Merged
+pub mod Opened
+pub mod CellMoves
+pub mod CellsBack
+pub mod JoinedAll
+pub mod Closed
+pub mod Starts
+pub mod Keys

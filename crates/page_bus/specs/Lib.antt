@@ -1,0 +1,14 @@
+pub mod Closing
+pub mod Inside
+pub mod Joining
+pub mod Merge
+pub mod Moves
+pub mod Opening
+pub mod Passes
+pub mod Plant
+pub mod PlantLaws
+pub mod Room
+pub mod Saves
+pub mod Steps
+pub mod Traced
+pub mod Turns
