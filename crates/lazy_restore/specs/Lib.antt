@@ -1,0 +1,4 @@
+pub mod Lazy
+pub mod Rest
+pub mod Answers
+pub mod Runs

@@ -1,0 +1,3 @@
+pub mod HeadPieces
+pub mod PagesOf
+pub mod Refusals
