@@ -24,7 +24,7 @@ where_told f (Some bytes) P each = each bytes refl
 where_told f None P each = tt
 
 -- a fact of anything holds of what is there
-always : {X : Type 0} (o : Option X) (P : X → Type 0) → ((x : X) → P x) → IfSome o P
+pub always : {X : Type 0} (o : Option X) (P : X → Type 0) → ((x : X) → P x) → IfSome o P
 always (Some x) P each = each x
 always None P each = tt
 
@@ -35,6 +35,10 @@ pub passed : (old new : Faults) (step : Step) (steps : List Step) (end : Option 
 passed old new step steps None passes cause = (passes, cause)
 passed old new step steps (Some fault) passes (inl memory) = inl memory
 passed old new step steps (Some fault) passes (inr cause) = inr (inr (inr (passes, cause)))
+
+-- the cause of an end by its fault
+pub ended_cause : (old new : Faults) (steps : List Step) (end : Option Fault) (fault : Fault) → end ≡ Some fault → HasCause old new steps (Some fault) → HasCause old new steps end
+ended_cause old new steps end fault is cause = subst (HasCause old new steps) (sym is) cause
 
 -- an image that was not read
 pub unread : (old new : Faults) (image : SourceState) (refusal : List ℕ → Option Fault) (steps : List Step) (e : ImageFault)
@@ -53,7 +57,7 @@ full (b ∷ bytes) len some is = ap (λ (n : ℕ). Some (faults.NotEmpty n)) (sy
 some_is_true : (n : ℕ) → 0 < n → nat_lt 0 n ≡ true
 some_is_true n some = lt-ltb 0 n some
 
-told_fact : (P : List ℕ → Type 0) (told : Option (List ℕ)) (bytes : List ℕ) → IfSome told P → told ≡ Some bytes → P bytes
+pub told_fact : (P : List ℕ → Type 0) (told : Option (List ℕ)) (bytes : List ℕ) → IfSome told P → told ≡ Some bytes → P bytes
 told_fact P told bytes holds is = subst (λ (o : Option (List ℕ)). IfSome o P) is holds
 
 -- an output that was not written

@@ -1,6 +1,11 @@
--- From the end of a job's work to the end of its line.
-use Rattle.std.proofs.Common.{◌≡◌, inl, inr, ℕ, ◌≤◌, ◌<◌, List, [], ◌++◌, take, Option, Some, None, refl, sym, ap, subst, ◌∙◌, arith, append_assoc}
-use Rattle.std.specs.Prelude.{IsSome}
+-- From the work of a job to the end of its line.
+use Rattle.std.proofs.Common.{◌≡◌, ◌⊎◌, inl, inr, ℕ, ◌≤◌, ◌<◌, List, [], ◌++◌, length, take, Option, Some, None, Result, Ok, Err, refl, sym, ap, subst, ◌∙◌, arith, append_assoc}
+use Rattle.std.specs.Prelude.{Bool, true, false, is_some, IsErr, IsErrAnd}
+use Rattle.vm_words.specs.Limits.{IsSave}
+use Rattle.vm_words.specs.declared.job.Job.TheVariants as jobs
+use Rattle.vm_words.specs.declared.job.Mode.{Mode}
+use Rattle.vm_words.specs.declared.job.Mode.TheVariants.{Sliced, Threads}
+use Rattle.vm_words.specs.declared.turns.TurnOf.{TurnOf}
 use Rattle.image_file.specs.Image.{ReadsOn}
 use Rattle.image_file.proofs.Reading.{reads_none}
 use Rattle.medium.specs.Bytes.{AddsFront, BecomesTold}
@@ -8,150 +13,319 @@ use Rattle.medium.specs.Members.{file_state}
 use Rattle.medium.specs.States.{FileState, Leaves, SinkState, SourceState}
 use Rattle.medium.specs.declared.readable.Readable as readable
 use Rattle.medium.proofs.Leaves.{leaves_same}
-use Rattle.vm_cli.specs.Ends.{Does, Ends, Fails, Keeps, IsBeforeOutput, IsNotEmpty, IsUnwritten, IsWorkDone, steps_behind, steps_of, words_step}
+use Rattle.vm_cli.specs.Answer.{fault_in}
+use Rattle.vm_cli.specs.Ends.{Ends}
+use Rattle.vm_cli.specs.FaultLine.{fault_line}
 use Rattle.vm_cli.specs.Images.{IsCrashSafe}
-use Rattle.vm_cli.specs.Jobs.Assembly.{Assembles}
-use Rattle.vm_cli.specs.Jobs.Common.{PrintsLine}
-use Rattle.vm_cli.specs.Jobs.FirstSave.{FailsToSave, SavesBoot}
-use Rattle.vm_cli.specs.Outside.{Outside, Same, faults_of}
+use Rattle.vm_cli.specs.Jobs.Common.{Prints, PrintsBehind, PrintsLine, PrintsReport, Takes, TakesReport, TakesWhole}
+use Rattle.vm_cli.specs.Jobs.Save.{EndsEarly, IsBeforePhases, ReadsImage, ReportsFailed}
+use Rattle.vm_cli.specs.Outside.{End, Outside, Same, faults_of}
 use Rattle.vm_cli.specs.Parts.{AddsFronts}
 use Rattle.vm_cli.specs.Steps.{Console, Faults, HasCause, HasFailed, Image, Input, Object, Output}
-use Rattle.vm_cli.specs.Words.{IsFaultOfLine, line_fault, served_line}
-use Rattle.vm_cli.specs.Write.{IsBeforeConsole}
+use Rattle.vm_cli.specs.Words.{IsFaultOfLine, line_fault, served_line, served_of}
+use Rattle.vm_cli.specs.Work.{Does, Fails, IsBeforeOutput, IsNotConsole, IsNotEmpty, IsUsage, IsWorkDone, Keeps, KeepsOthers, StopsEarly, Works, steps_behind, steps_of, words_step}
+use Rattle.vm_cli.specs.Write.{IsBeforeConsole, KeepsFull}
 use Rattle.vm_cli.specs.declared.answer.Fault.{Fault}
 use Rattle.vm_cli.specs.declared.answer.Fault.TheVariants as faults
 use Rattle.vm_cli.specs.declared.words.Caller.{Caller}
-use Rattle.vm_cli.specs.declared.words.Served.{Served}
-use Rattle.vm_cli.specs.declared.words.Served.TheVariants.{FirstSave, Assembly}
-use Rattle.vm_cli.proofs.Causes.{cause_later, ends_as_called_for, passed}
+use Rattle.flat_machine.specs.Machine.{boot}
+use Rattle.ram_block.specs.Shape.{ShapeData}
+use Rattle.vm_cli.specs.Served.{Assembly, CheckFile, Restore, Save, Served, SlicedPhases, Workload}
+use Rattle.vm_cli.proofs.Causes.{always, cause_later, ends_as_called_for, passed}
+use Rattle.vm_cli.proofs.Lines.{LineBehind, fronts, printed_behind, reported_later}
 
--- ---- The words
-
--- a fault of the words has its cause
-pub line_cause : (old new : Faults) (caller : Caller) (words : List (List ℕ)) (image : SourceState) (output : FileState) (fault : Fault) → IsFaultOfLine caller words fault
-    → HasCause old new (steps_of caller words image output) (Some fault)
-line_cause old new caller words image output (faults.Usage index kind) is = inr (inr (inl (refl, is)))
-line_cause old new caller words image output faults.NotYet is = inr (inr (inl (refl, is)))
-line_cause old new caller words image output faults.NoMemory is = inl refl
-line_cause old new caller words image output _ is = absurd is
-
--- a line that is served leaves the cause to the steps of its job
-pub served_cause : (old new : Faults) (caller : Caller) (words : List (List ℕ)) (served : Served) (image : SourceState) (output : FileState) (end : Option Fault)
-    → line_fault caller words ≡ None → served_line words ≡ Some served → HasCause old new (steps_behind (Some served) image output) end
-    → HasCause old new (steps_of caller words image output) end
-served_cause old new caller words served image output end none is cause =
-    passed old new (words_step caller words) _ end none (subst (λ (s : Option Served). HasCause old new (steps_behind s image output) end) (sym is) cause)
+-- ---- Nothing was done
 
 -- nothing of the image was read
 pub reads_nothing : (most : ℕ) (image : SourceState) → ReadsOn most image image
 reads_nothing most image = record { left = reads_none most image.left; never_falls = omega arith }
 
--- the words end a job before all its work
-pub line_ends : (caller : Caller) (words : List (List ℕ)) (fault : Fault) (P : Type 0) → IsFaultOfLine caller words fault → IsWorkDone (Some fault) → P
-line_ends caller words (faults.Usage index kind) P is done = absurd done
-line_ends caller words faults.NotYet P is done = absurd done
-line_ends caller words faults.NoMemory P is done = absurd done
-line_ends caller words _ P is done = absurd is
-
--- ---- What was done
-
-pub done_of : (old new : Outside) (same : Same) (served : Option Served) (fault : Option Fault) → IsSome served → (served ≡ Some FirstSave → SavesBoot old new same)
-    → (served ≡ Some Assembly → Assembles old new fault) → Does served old new same fault
-done_of old new same None fault some saved assembled = cc some
-done_of old new same (Some FirstSave) fault some saved assembled = saved refl
-done_of old new same (Some Assembly) fault some saved assembled = assembled refl
-
-pub failed_of : (old new : Outside) (served : Option Served) → (served ≡ Some FirstSave → FailsToSave old new) → Fails served old new
-failed_of old new None failed = tt
-failed_of old new (Some FirstSave) failed = failed refl
-failed_of old new (Some Assembly) failed = tt
-
--- ---- Crashes
+-- a file that wasn't called keeps what it had
+pub full_stays : (file : FileState) → KeepsFull file file
+full_stays file = always file.told (λ bytes. 0 < length bytes → Leaves file file) (λ bytes some. leaves_same file)
 
 -- a file that was only looked at has had no image but those of before
-looked_at : (old new : FileState) → ((image : List ℕ) → old.left_since old.moment image → old.may_leave image) → Leaves old new → IsCrashSafe None old new
+pub looked_at : (old new : FileState) → ((image : List ℕ) → old.left_since old.moment image → old.may_leave image) → Leaves old new → IsCrashSafe None old new
 looked_at old new only_now leaves image left =
     elim (leaves.time.nothing_else old.moment image (omega arith) left) [ inl before ↦ inl (only_now image before) | inr now ↦ inl ((leaves.images image).0 now) ]
 
 -- so has one that wasn't written
 pub unwritten_crash : {M : Type 0} (shows : readable.Ghosts M) (old new : M) (fault : Option Fault)
     → ((image : List ℕ) → shows.left_since old (shows.moment old) image → shows.may_leave old image)
-    → (IsBeforeOutput fault → new ≡ old) → (IsNotEmpty fault → Leaves (file_state shows old) (file_state shows new)) → IsUnwritten fault
+    → (IsBeforeOutput fault → new ≡ old) → (IsNotEmpty fault → Leaves (file_state shows old) (file_state shows new)) → IsBeforeOutput fault ⊎ IsNotEmpty fault
     → IsCrashSafe None (file_state shows old) (file_state shows new)
 unwritten_crash shows old new fault only_now same leaves (inl before) =
     let P : _ → Type 0 = λ file. IsCrashSafe None (file_state shows old) (file_state shows file) in
     subst P (sym (same before)) (looked_at (file_state shows old) (file_state shows old) only_now (leaves_same (file_state shows old)))
 unwritten_crash shows old new fault only_now same leaves (inr full) = looked_at (file_state shows old) (file_state shows new) only_now (leaves full)
 
+-- ---- The words
+
+-- a fault of the words has its cause
+fault_cause : (old new : Faults) (caller : Caller) (words : List (List ℕ)) (it : Outside) (fault : Fault) → IsFaultOfLine caller words fault
+    → HasCause old new (steps_of caller words it) (Some fault)
+fault_cause old new caller words it (faults.Usage index kind) is = inr (inr (inl (refl, is)))
+fault_cause old new caller words it faults.NotYet is = inr (inr (inl (refl, is)))
+fault_cause old new caller words it faults.NoMemory is = inl refl
+fault_cause old new caller words it _ is = absurd is
+
+-- a line that is served leaves the cause to the steps of its job
+pub served_cause : (old new : Faults) (caller : Caller) (words : List (List ℕ)) (served : Served) (it : Outside) (end : Option Fault)
+    → line_fault caller words ≡ None → served_line words ≡ Some served → HasCause old new (steps_behind (Some served) it) end
+    → HasCause old new (steps_of caller words it) end
+served_cause old new caller words served it end none is cause =
+    passed old new (words_step caller words) _ end none (subst (λ (s : Option Served). HasCause old new (steps_behind s it) end) (sym is) cause)
+
+-- and its work to that of its job
+pub served_works : (words : List (List ℕ)) (served : Served) (old new : Outside) (same : Same) (end : End) → served_line words ≡ Some served
+    → Works (Some served) old new same end → Works (served_line words) old new same end
+served_works words served old new same end is works = subst (λ (s : Option Served). Works s old new same end) (sym is) works
+
+-- the words end a job before all its work
+line_ends : (caller : Caller) (words : List (List ℕ)) (fault : Fault) (P : Type 0) → IsFaultOfLine caller words fault → IsWorkDone (Some fault) → P
+line_ends caller words (faults.Usage index kind) P is done = absurd done
+line_ends caller words faults.NotYet P is done = absurd done
+line_ends caller words faults.NoMemory P is done = absurd done
+line_ends caller words _ P is done = absurd is
+
+-- and come before each phase
+line_early : (caller : Caller) (words : List (List ℕ)) (fault : Fault) → IsFaultOfLine caller words fault → IsBeforePhases (Some fault)
+line_early caller words (faults.Usage index kind) is = tt
+line_early caller words faults.NotYet is = tt
+line_early caller words faults.NoMemory is = tt
+line_early caller words _ is = absurd is
+
+-- so nothing was done
+stops_at_line : (served : Option Served) (it : Outside) (same : Same) (end : End) → IsBeforePhases end.fault → end.first ≡ [] → end.second ≡ [] → same.output → StopsEarly served it it same end
+stops_at_line None it same end early first second output = first
+stops_at_line (Some (Save shape input phases)) it same end early first second output = inl (early, record { first = first; second = second; output = output })
+stops_at_line (Some Assembly) it same end early first second output = first
+stops_at_line (Some CheckFile) it same end early first second output = first
+stops_at_line (Some (Restore n)) it same end early first second output = first
+stops_at_line (Some (Workload seed)) it same end early first second output = inl (early, record { first = first; second = second; output = output })
+
+others_stay : (served : Option Served) (it : Outside) (same : Same) → same.image → same.input → same.output → KeepsOthers served it it same
+others_stay None it same image input output = input
+others_stay (Some (Save shape serial phases)) it same image input output = input
+others_stay (Some Assembly) it same image input output = input
+others_stay (Some CheckFile) it same image input output = record { input = leaves_same it.input; image = image; output = output }
+others_stay (Some (Restore n)) it same image input output = record { input = leaves_same it.input; image = image; output = output }
+others_stay (Some (Workload seed)) it same image input output = record { image = image; input = input }
+
+-- the work of a line that isn't served: none
+fault_works : (caller : Caller) (words : List (List ℕ)) (served : Option Served) (it : Outside) (same : Same) (fault : Fault) (first second : List ℕ)
+    → ((image : List ℕ) → it.output.left_since it.output.moment image → it.output.may_leave image) → IsFaultOfLine caller words fault → first ≡ [] → second ≡ []
+    → same.image → same.input → same.output → same.console → Works served it it same (record { fault = Some fault; first = first; second = second })
+fault_works caller words served it same fault first second only_now is no_first no_second image input output console = record {
+  done = line_ends caller words fault _ is;
+  failed = λ f ended other. inl (stops_at_line served it same _ (line_early caller words fault is) no_first no_second output, console);
+  orders = record { first = λ _. no_first; second = λ _. no_second };
+  kept = record {
+    others = others_stay served it same image input output;
+    input = λ _. input;
+    image = λ _. image;
+    read = reads_nothing _ it.image;
+    output = λ _. output;
+    not_empty = λ _. leaves_same it.output;
+    full = full_stays it.output;
+  };
+  crash = λ _. looked_at it.output it.output only_now (leaves_same it.output);
+  count = omega arith;
+}
+
+-- a result that is this fault
+pub failed_with : {X : Type 0} (result : Result X Fault) (fault : Fault) → IsErr result × IsErrAnd result (λ f. f ≡ fault) → fault_in result ≡ Some fault
+failed_with (Ok done) fault failed = cc failed.0
+failed_with (Err f) fault failed = ap Some failed.1
+
+-- the cause of a line that isn't served
+pub line_cause : (old new : Faults) (caller : Caller) (words : List (List ℕ)) (it : Outside) (end : Option Fault) (fault : Fault) → end ≡ Some fault → IsFaultOfLine caller words fault
+    → HasCause old new (steps_of caller words it) end
+line_cause old new caller words it end fault ended is = subst (λ (f : Option Fault). HasCause old new (steps_of caller words it) f) (sym ended) (fault_cause old new caller words it fault is)
+
+-- its work: none
+pub line_works : (caller : Caller) (words : List (List ℕ)) (served : Option Served) (it : Outside) (same : Same) (end : Option Fault) (fault : Fault) (first second : List ℕ)
+    → ((image : List ℕ) → it.output.left_since it.output.moment image → it.output.may_leave image) → end ≡ Some fault → IsFaultOfLine caller words fault → first ≡ [] → second ≡ []
+    → same.image → same.input → same.output → same.console → Works served it it same (record { fault = end; first = first; second = second })
+line_works caller words served it same end fault first second only_now ended is no_first no_second image input output console =
+    subst (λ (f : Option Fault). Works served it it same (record { fault = f; first = first; second = second })) (sym ended)
+    (fault_works caller words served it same fault first second only_now is no_first no_second image input output console)
+
+-- a fault that isn't the console's ends no work
+pub undone_fault : (end : Option Fault) (fault : Fault) → end ≡ Some fault → IsNotConsole fault → IsWorkDone end → ⊥
+undone_fault None fault is other done = cc is
+undone_fault (Some faults.ConsoleFault) fault is other done = let same : faults.ConsoleFault ≡ fault = cc is in subst IsNotConsole (sym same) other
+undone_fault (Some _) fault is other done = done
+
+-- ---- A save, and a restore
+
+-- a save that is served has turns of its own
+pub served_save : (shape : ShapeData) (stop run : ℕ) (mode : Mode) (turns : List TurnOf) (serial : List ℕ) (relay : ℕ) → is_some (served_of (jobs.Save shape stop run mode turns serial relay)) ≡ true
+    → served_of (jobs.Save shape stop run mode turns serial relay) ≡ Some (Save shape serial (record { stop = stop; run = run; turns = turns }))
+served_save shape stop run Sliced turns serial relay is = refl
+served_save shape stop run Threads turns serial relay is = cc is
+
+-- what the words allow of it
+pub save_limits : (shape : ShapeData) (stop run : ℕ) (mode : Mode) (turns : List TurnOf) (serial : List ℕ) (relay : ℕ) → is_some (served_of (jobs.Save shape stop run mode turns serial relay)) ≡ true
+    → IsSave shape stop run mode turns serial relay → IsSave shape stop run Sliced turns serial 0
+save_limits shape stop run Sliced turns serial relay is limits = subst (λ n. IsSave shape stop run Sliced turns serial n) (limits.relay_unused refl) limits
+save_limits shape stop run Threads turns serial relay is limits = cc is
+
+-- a restore that is served reads the whole file
+pub served_restore : (n : ℕ) (lazy : Bool) → is_some (served_of (jobs.Restore n lazy)) ≡ true → served_of (jobs.Restore n lazy) ≡ Some (Restore n)
+served_restore n false is = refl
+served_restore n true is = cc is
+
+-- how it ended, told of the outside
+pub save_failed : (shape : ShapeData) (serial : List ℕ) (phases : SlicedPhases) (old new : Outside) (same_output silent : Type 0) (fault : Fault) (end : End)
+    → (EndsEarly shape serial phases old.image new.image same_output old.output new.output end × silent)
+    ⊎ ((bytes : List ℕ) × ReadsImage shape bytes old.image new.image × ReportsFailed TakesReport (boot shape bytes serial) phases old.output new.output old.console new.console end)
+    → (EndsEarly shape serial phases old.image new.image same_output old.output new.output end × silent) ⊎ Fails TakesReport TakesWhole (Some (Save shape serial phases)) fault old new end
+save_failed shape serial phases old new same_output silent fault end (inl early) = inl early
+save_failed shape serial phases old new same_output silent fault end (inr failed) = inr (record { image = failed.0; taken = failed.1; reported = failed.2 })
+
 -- ---- The line of a fault
 
 -- a count of the console that rose goes on having risen
-pub later : (old : Faults) (image input output mid new : ℕ) → mid ≤ new → (object : Object) → HasFailed old (record { image = image; input = input; output = output; console = mid }) object
+later : (old : Faults) (image input output mid new : ℕ) → mid ≤ new → (object : Object) → HasFailed old (record { image = image; input = input; output = output; console = mid }) object
     → HasFailed old (record { image = image; input = input; output = output; console = new }) object
 later old image input output mid new le Image failed = failed
 later old image input output mid new le Input failed = failed
 later old image input output mid new le Output failed = failed
 later old image input output mid new le Console failed = omega (arith, failed, le)
 
--- a fault that is not the console's comes before its first call
-pub before_console : (fault : Fault) → (fault ≡ faults.ConsoleFault → ⊥) → IsBeforeConsole (Some fault)
-before_console faults.ConsoleFault other = absurd (other refl)
-before_console _ other = tt
+-- an end with a fault that isn't the console's comes before its first call
+pub before_console : (end : Option Fault) (fault : Fault) → end ≡ Some fault → IsNotConsole fault → IsBeforeConsole end
+before_console None fault is other = cc is
+before_console (Some faults.ConsoleFault) fault is other = absurd (let same : faults.ConsoleFault ≡ fault = cc is in subst IsNotConsole (sym same) other)
+before_console (Some _) fault is other = tt
 
--- a front of one text, and behind it a front of another
-two_fronts : (text line before : List ℕ) (mid new : Option (List ℕ)) → BecomesTold (AddsFront text) (Some before) mid → BecomesTold (AddsFront line) mid new → BecomesTold (AddsFronts text line) (Some before) new
-two_fronts text line before (Some taken) (Some all) one two =
-    (one.0, two.0, two.1 ∙ ap (λ (l : List ℕ). l ++ take two.0 line) one.1 ∙ append_assoc before (take one.0 text) (take two.0 line))
-two_fronts text line before (Some taken) None one two = absurd two
-two_fronts text line before None new one two = absurd one
+-- ---- What was done
 
-pub fronts : (text line : List ℕ) (old mid new : Option (List ℕ)) → BecomesTold (AddsFront text) old mid → BecomesTold (AddsFront line) mid new → BecomesTold (AddsFronts text line) old new
-fronts text line (Some before) mid new one two = two_fronts text line before mid new one two
-fronts text line None mid new one two = subst (λ (o : Option (List ℕ)). BecomesTold (AddsFront line) o new) one two
+-- the text of a job that ended well is all that was printed
+done_well : (served : Option Served) (old new : Outside) (first second : List ℕ) → Does Takes served old new (record { fault = None; first = first; second = second })
+    → Does Prints served old new (record { fault = None; first = first; second = second })
+done_well None old new first second did = absurd did
+done_well (Some (Save shape input phases)) old new first second did = record { image = did.image; taken = did.taken; saved = did.saved; printed = did.printed }
+done_well (Some Assembly) old new first second did = record { bytes = did.bytes; wrote = did.wrote; printed = did.printed }
+done_well (Some CheckFile) old new first second did = record { machine = did.machine; loaded = did.loaded; printed = did.printed }
+done_well (Some (Restore n)) old new first second did = record { after = did.after; phase = did.phase; printed = did.printed }
+done_well (Some (Workload seed)) old new first second did = record { saved = did.saved; checked = did.checked; shape = did.shape; printed = did.printed }
+
+-- the outside at the end of a job's work, before the line of its fault
+abbrev pub before_line : Outside → SinkState → Outside
+before_line it console = record { image = it.image; input = it.input; output = it.output; console = console }
+
+abbrev pub same_before : Same → Type 0 → Same
+same_before same console = record { image = same.image; input = same.input; output = same.output; console = console }
+
+-- a front of the line of the fault stands behind a front of the text
+done_badly : (served : Option Served) (old new : Outside) (mid : SinkState) (fault : Fault) (first second : List ℕ) → BecomesTold (AddsFront (fault_line fault)) mid.taken new.console.taken
+    → Does Takes served old (before_line new mid) (record { fault = Some fault; first = first; second = second })
+    → Does Prints served old new (record { fault = Some fault; first = first; second = second })
+done_badly None old new mid fault first second line did = absurd did
+done_badly (Some (Save shape input phases)) old new mid fault first second line did =
+    record { image = did.image; taken = did.taken; saved = did.saved; printed = fronts _ _ _ _ _ did.printed line }
+done_badly (Some Assembly) old new mid fault first second line did = record { bytes = did.bytes; wrote = did.wrote; printed = fronts _ _ _ _ _ did.printed line }
+done_badly (Some CheckFile) old new mid fault first second line did = record { machine = did.machine; loaded = did.loaded; printed = fronts _ _ _ _ _ did.printed line }
+done_badly (Some (Restore n)) old new mid fault first second line did = record { after = did.after; phase = did.phase; printed = fronts _ _ _ _ _ did.printed line }
+done_badly (Some (Workload seed)) old new mid fault first second line did =
+    record { saved = did.saved; checked = did.checked; shape = did.shape; printed = fronts _ _ _ _ _ did.printed line }
+
+early_later : (served : Option Served) (old new : Outside) (mid : SinkState) (same : Same) (silent : Type 0) (end : End) → StopsEarly served old (before_line new mid) (same_before same silent) end
+    → StopsEarly served old new same end
+early_later None old new mid same silent end early = early
+early_later (Some (Save shape input phases)) old new mid same silent end early = early
+early_later (Some Assembly) old new mid same silent end early = early
+early_later (Some CheckFile) old new mid same silent end early = early
+early_later (Some (Restore n)) old new mid same silent end early = early
+early_later (Some (Workload seed)) old new mid same silent end early = early
+
+-- the line of a fault behind a report
+failed_later : (served : Option Served) (old new : Outside) (mid : SinkState) (fault : Fault) (end : End) → LineBehind fault old.console mid new.console
+    → Fails TakesReport TakesWhole served fault old (before_line new mid) end → end.fault ≡ Some fault → Fails PrintsReport PrintsBehind served fault old new end
+failed_later None old new mid fault end line failed is = absurd failed
+failed_later (Some (Save shape input phases)) old new mid fault end line failed is =
+    record { image = failed.image; taken = failed.taken; reported = reported_later _ _ _ _ _ _ _ fault end line failed.reported is }
+failed_later (Some Assembly) old new mid fault end line failed is = absurd failed
+failed_later (Some CheckFile) old new mid fault end line failed is = absurd failed
+failed_later (Some (Restore n)) old new mid fault end line failed is = absurd failed
+failed_later (Some (Workload seed)) old new mid fault end line (inl failed) is = inl (reported_later _ _ _ _ _ _ _ fault end line failed is)
+failed_later (Some (Workload seed)) old new mid fault end line (inr failed) is =
+    inr (record { of_load = failed.of_load; saved = failed.saved; printed = printed_behind fault _ _ _ _ line failed.printed })
+
+others_later : (served : Option Served) (old new : Outside) (mid : SinkState) (same : Same) (silent : Type 0) → KeepsOthers served old (before_line new mid) (same_before same silent)
+    → KeepsOthers served old new same
+others_later None old new mid same silent others = others
+others_later (Some (Save shape input phases)) old new mid same silent others = others
+others_later (Some Assembly) old new mid same silent others = others
+others_later (Some CheckFile) old new mid same silent others = record { input = others.input; image = others.image; output = others.output }
+others_later (Some (Restore n)) old new mid same silent others = record { input = others.input; image = others.image; output = others.output }
+others_later (Some (Workload seed)) old new mid same silent others = record { image = others.image; input = others.input }
+
+kept_later : (served : Option Served) (old new : Outside) (mid : SinkState) (same : Same) (silent : Type 0) (fault : Option Fault)
+    → Keeps served old (before_line new mid) (same_before same silent) fault → Keeps served old new same fault
+kept_later served old new mid same silent fault kept = record {
+  others = others_later served old new mid same silent kept.others;
+  input = kept.input;
+  image = kept.image;
+  read = kept.read;
+  output = kept.output;
+  not_empty = kept.not_empty;
+  full = kept.full;
+}
 
 -- ---- The end of a line
 
+-- an end by its parts
+pub end_by : (caller : Caller) (words : List (List ℕ)) (old new : Outside) (same : Same) (f g : Option Fault) (a b x y : List ℕ) → g ≡ f → b ≡ a → y ≡ x
+    → Ends caller words old new same (record { fault = f; first = a; second = x }) → Ends caller words old new same (record { fault = g; first = b; second = y })
+end_by caller words old new same f g a b x y fault first second ends =
+    subst (λ (o : Option Fault). Ends caller words old new same (record { fault = o; first = b; second = y })) (sym fault)
+    (subst (λ (o : List ℕ). Ends caller words old new same (record { fault = f; first = o; second = y })) (sym first)
+    (subst (λ (o : List ℕ). Ends caller words old new same (record { fault = f; first = a; second = o })) (sym second) ends))
+
 -- of a job that ended well
-pub ends_well : (caller : Caller) (words : List (List ℕ)) (old new : Outside) (same : Same) (first second : List ℕ) (fault : Option Fault) → fault ≡ None → first ≡ [] → second ≡ []
-    → HasCause (faults_of old) (faults_of new) (steps_of caller words old.image old.output) None → Does (served_line words) old new same None
-    → Keeps (served_line words) old new same None → (IsUnwritten None → IsCrashSafe None old.output new.output) → Ends caller words old new same (record { fault = fault; first = first; second = second })
-ends_well caller words old new same first second fault is no_first no_second cause done kept crash =
-    subst (λ (f : Option Fault). Ends caller words old new same (record { fault = f; first = first; second = second })) (sym is)
-    (record {
-      cause = cause;
-      complete = ends_as_called_for (faults_of old) (faults_of new) (steps_of caller words old.image old.output) None cause;
-      done = λ _. done;
-      failed = λ fault more. cc fault;
-      orders = record { first = no_first; second = no_second };
-      printed = λ fault is other. cc is;
-      kept = kept;
-      crash = crash;
-    })
+pub ends_well : (caller : Caller) (words : List (List ℕ)) (old new : Outside) (same : Same) (first second : List ℕ) → HasCause (faults_of old) (faults_of new) (steps_of caller words old) None
+    → Works (served_line words) old new same (record { fault = None; first = first; second = second })
+    → Ends caller words old new same (record { fault = None; first = first; second = second })
+ends_well caller words old new same first second cause works = record {
+  cause = cause;
+  complete = ends_as_called_for (faults_of old) (faults_of new) (steps_of caller words old) None cause;
+  done = λ _. done_well (served_line words) old new first second (works.done tt);
+  failed = λ fault is other. cc is;
+  orders = works.orders;
+  kept = works.kept;
+  crash = works.crash;
+}
 
 -- of a job that ended with a fault, whose line was printed behind what the console had taken
-pub ends_badly : (caller : Caller) (words : List (List ℕ)) (old new : Outside) (mid : SinkState) (same : Same) (first second : List ℕ) (end : Option Fault) (fault : Fault)
-    → end ≡ Some fault → first ≡ [] → second ≡ [] → mid.faults ≤ new.console.faults
-    → HasCause (faults_of old) (record { image = new.image.faults; input = new.input.faults; output = new.output.faults; console = mid.faults }) (steps_of caller words old.image old.output) (Some fault)
-    → (IsWorkDone (Some fault) → Does (served_line words) old new same (Some fault)) → (fault ≡ faults.FileFault → Fails (served_line words) old new)
-    → PrintsLine fault mid new.console → (IsBeforeConsole (Some fault) → mid ≡ old.console)
-    → Keeps (served_line words) old new same (Some fault) → (IsUnwritten (Some fault) → IsCrashSafe None old.output new.output) → Ends caller words old new same (record { fault = end; first = first; second = second })
-ends_badly caller words old new mid same first second end fault is no_first no_second more cause done failed printed silent kept crash =
-    let steps = steps_of caller words old.image old.output in
+pub ends_badly : (caller : Caller) (words : List (List ℕ)) (old new : Outside) (mid : SinkState) (same : Same) (silent : Type 0) (first second : List ℕ) (fault : Fault)
+    → mid.faults ≤ new.console.faults → HasCause (faults_of old) (faults_of (before_line new mid)) (steps_of caller words old) (Some fault)
+    → Works (served_line words) old (before_line new mid) (same_before same silent) (record { fault = Some fault; first = first; second = second })
+    → PrintsLine fault mid new.console → BecomesTold (AddsFront (fault_line fault)) mid.taken new.console.taken → (silent → mid ≡ old.console)
+    → Ends caller words old new same (record { fault = Some fault; first = first; second = second })
+ends_badly caller words old new mid same silent first second fault more cause works printed front stays =
+    let steps = steps_of caller words old in
     let lasts : HasCause (faults_of old) (faults_of new) steps (Some fault) =
-    cause_later (faults_of old) (record { image = new.image.faults; input = new.input.faults; output = new.output.faults; console = mid.faults }) (faults_of new) steps (Some fault)
+    cause_later (faults_of old) (faults_of (before_line new mid)) (faults_of new) steps (Some fault)
     (later (faults_of old) new.image.faults new.input.faults new.output.faults mid.faults new.console.faults more) cause in
-    let line : (f : Fault) → Some fault ≡ Some f → (f ≡ faults.ConsoleFault → ⊥) → PrintsLine f old.console new.console = λ f same_fault other.
-    let it : fault ≡ f = cc same_fault in
-    subst (λ (m : SinkState). PrintsLine f m new.console) (silent (before_console fault (λ console. other (sym it ∙ console)))) (subst (λ (x : Fault). PrintsLine x mid new.console) it printed) in
-    let file : Some fault ≡ Some faults.FileFault → old.output.syncs < new.output.syncs → Fails (served_line words) old new = λ file more_syncs. failed (cc file) in
-    subst (λ (f : Option Fault). Ends caller words old new same (record { fault = f; first = first; second = second })) (sym is)
-    (record {
+    let behind : LineBehind fault old.console mid new.console = record { more = more; started = works.count; line = printed } in
+    record {
       cause = lasts;
       complete = ends_as_called_for (faults_of old) (faults_of new) steps (Some fault) lasts;
-      done = done;
-      failed = file;
-      orders = record { first = no_first; second = no_second };
-      printed = line;
-      kept = kept;
-      crash = crash;
-    })
+      done = λ done. done_badly (served_line words) old new mid fault first second front (works.done done);
+      failed = λ f is other.
+          (let it : f ≡ fault = cc is in
+          elim (works.failed f is other) [
+            | inl (early, silent) ↦
+                inl (
+                  early_later (served_line words) old new mid same _ _ early,
+                  subst (λ (m : SinkState). PrintsLine f m new.console) (stays silent) (subst (λ (x : Fault). PrintsLine x mid new.console) (sym it) printed),
+                )
+            | inr failed ↦ inr (failed_later (served_line words) old new mid f _ (subst (λ (x : Fault). LineBehind x old.console mid new.console) (sym it) behind) failed is)
+          ]);
+      orders = works.orders;
+      kept = kept_later (served_line words) old new mid same silent (Some fault) works.kept;
+      crash = works.crash;
+    }

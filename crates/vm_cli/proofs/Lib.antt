@@ -1,8 +1,12 @@
-pub mod Pieces
-pub mod FirstFile
 pub mod Causes
+pub mod Lines
+pub mod Loads
+pub mod Boot
+pub mod Saves
+pub mod SaveEnds
+pub mod SaveImages
+pub mod SavedLoads
 pub mod Jobs
 pub mod Statuses
 pub mod Torn
-pub mod OnePage
 pub mod Fronts

@@ -6,6 +6,10 @@ use Rattle.guest_asm.specs.declared.fault.AsmKind.TheVariants as wrong
 use Rattle.image_file.specs.declared.elf_kind.ElfKind.{ElfKind}
 use Rattle.image_file.specs.declared.elf_kind.ElfKind.TheVariants.{Short, Class, Encoding, Machine, EntrySize, Table, Sizes, Range, Place}
 use Rattle.image_file.specs.declared.image_refusal.ImageRefusal.TheVariants.{Empty, TooLong, Elf}
+use Rattle.mapped_ram_header.specs.declared.fault.HeaderFault.TheVariants.{Version, PageSize, BitmapOffset, PagesOffset}
+use Rattle.device_state.specs.declared.fault.DeviceFault.TheVariants.{Steps, State, SerialLength, InputLength, Clock}
+use Rattle.loader.specs.declared.refusal.Refusal.{Refusal}
+use Rattle.loader.specs.declared.refusal.Refusal.TheVariants as file
 use Rattle.vm_words.specs.declared.fault.UsageKind.{UsageKind}
 use Rattle.vm_words.specs.declared.fault.UsageKind.TheVariants.{NoCommand, Command, NoEquals, Key, Twice, Value, Missing, NeedsThreads}
 use Rattle.vm_cli.specs.declared.answer.Fault.{Fault}
@@ -51,6 +55,37 @@ number_then n text = decimal n ++ codes " " ++ text
 abbrev pub then_number : List ℕ → ℕ → List ℕ
 then_number text n = text ++ codes " " ++ decimal n
 
+-- two numbers, and three, with a space between
+abbrev pub two_numbers : ℕ → ℕ → List ℕ
+two_numbers m n = number_then m (decimal n)
+
+abbrev pub three_numbers : ℕ → ℕ → ℕ → List ℕ
+three_numbers k m n = number_then k (two_numbers m n)
+
+-- the words of the line of a file that is refused
+abbrev pub file_words : Refusal → List ℕ
+file_words (file.Truncated at) = codes "fault 3 file truncated " ++ decimal at
+file_words (file.Magic v) = codes "fault 3 file magic " ++ decimal v
+file_words (file.StreamVersion v) = codes "fault 3 file stream-version " ++ decimal v
+file_words (file.Config at found) = codes "fault 3 file config " ++ two_numbers at found
+file_words (file.Section at found) = codes "fault 3 file section " ++ two_numbers at found
+file_words (file.RamVersion v) = codes "fault 3 file ram-version " ++ decimal v
+file_words (file.Flags at v) = codes "fault 3 file flags " ++ two_numbers at v
+file_words (file.Total v) = codes "fault 3 file total " ++ decimal v
+file_words (file.Name block at found) = codes "fault 3 file name " ++ three_numbers block at found
+file_words (file.Length block v) = codes "fault 3 file length " ++ two_numbers block v
+file_words (file.Header block (Version v)) = codes "fault 3 file header-version " ++ two_numbers block v
+file_words (file.Header block (PageSize v)) = codes "fault 3 file header-page-size " ++ two_numbers block v
+file_words (file.Header block (BitmapOffset v)) = codes "fault 3 file header-bitmap-offset " ++ two_numbers block v
+file_words (file.Header block (PagesOffset v)) = codes "fault 3 file header-pages-offset " ++ two_numbers block v
+file_words (file.Footer at found) = codes "fault 3 file footer " ++ two_numbers at found
+file_words (file.Device at (Steps v)) = codes "fault 3 file device-steps " ++ two_numbers at v
+file_words (file.Device at (State v)) = codes "fault 3 file device-state " ++ two_numbers at v
+file_words (file.Device at (SerialLength v)) = codes "fault 3 file device-serial-length " ++ two_numbers at v
+file_words (file.Device at (InputLength v)) = codes "fault 3 file device-input-length " ++ two_numbers at v
+file_words (file.Device at (Clock v)) = codes "fault 3 file device-clock " ++ two_numbers at v
+file_words (file.Trailing at) = codes "fault 3 file trailing " ++ decimal at
+
 -- the words of a fault's line
 abbrev pub fault_words : Fault → List ℕ
 fault_words (faults.Usage index kind) = codes "fault 1 usage " ++ number_then index (usage_text kind)
@@ -58,6 +93,7 @@ fault_words faults.NotYet = codes "fault 1 not-yet"
 fault_words (faults.ImageRefused Empty) = codes "fault 2 image empty"
 fault_words (faults.ImageRefused (TooLong len)) = codes "fault 2 image too-long " ++ decimal len
 fault_words (faults.ImageRefused (Elf kind at)) = codes "fault 2 image elf " ++ then_number (elf_text kind) at
+fault_words (faults.FileRefused refusal) = file_words refusal
 fault_words faults.FileFault = codes "fault 4 file-fault"
 fault_words faults.ConsoleFault = codes "fault 5 console-fault"
 fault_words faults.ImageFault = codes "fault 6 image-fault"

@@ -1,3 +1,7 @@
 pub mod Assembly
+pub mod CheckFile
 pub mod Common
-pub mod FirstSave
+pub mod Load
+pub mod Restore
+pub mod Save
+pub mod Workload

@@ -1,11 +1,12 @@
 pub mod Images
+pub mod Served
 pub mod Words
 pub mod Outside
 pub mod Steps
 pub mod Jobs
 pub mod Answer
+pub mod Work
 pub mod Ends
-pub mod FirstSave
 pub mod FaultLine
 pub mod Parts
 pub mod Write

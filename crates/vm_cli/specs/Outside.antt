@@ -7,6 +7,7 @@ use Rattle.medium.specs.declared.sink.Sink as sink
 use Rattle.medium.specs.declared.source.Source as source
 use Rattle.vm_cli.specs.Steps.{Faults}
 use Rattle.vm_cli.specs.declared.answer.Fault.{Fault}
+use Rattle.vm_cli.specs.declared.orders.Orders.{Orders}
 
 -- the four objects of the outside, as they show themselves
 pub record Outside : Type 1 where
@@ -15,13 +16,14 @@ pub record Outside : Type 1 where
   pub output : FileState
   pub console : SinkState
 
+-- by their states
+abbrev pub outside_of : SourceState → FileState → FileState → SinkState → Outside
+outside_of image input output console = record { image = image; input = input; output = output; console = console }
+
+-- by their ghost members
 abbrev pub outside : {S M K : Type 0} → source.Ghosts S → readable.Ghosts M → sink.Ghosts K → S → M → M → K → Outside
-outside of_source of_file of_sink image input output console = record {
-  image = source_state of_source image;
-  input = file_state of_file input;
-  output = file_state of_file output;
-  console = sink_state of_sink console;
-}
+outside of_source of_file of_sink image input output console =
+    outside_of (source_state of_source image) (file_state of_file input) (file_state of_file output) (sink_state of_sink console)
 
 -- how many calls on each have failed
 abbrev pub faults_of : Outside → Faults
@@ -39,3 +41,7 @@ pub record End : Type 0 where
   pub fault : Option Fault
   pub first : List ℕ
   pub second : List ℕ
+
+-- by the orders that a job leaves
+abbrev pub end_of : Option Fault → Orders → End
+end_of fault orders = record { fault = fault; first = orders.first.members; second = orders.second.members }

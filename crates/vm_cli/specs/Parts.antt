@@ -21,3 +21,7 @@ assembled_line n = codes "assembled " ++ decimal n ++ codes " bytes\n"
 -- new is old with some of the first bytes of one text behind it, and then some of the first of another
 abbrev pub AddsFronts : List ℕ → List ℕ → List ℕ → List ℕ → Type 0
 AddsFronts first second old new = (m : ℕ) × (n : ℕ) × (new ≡ old ++ (take m first ++ take n second))
+
+-- new is old with one text behind it, and then some of the first bytes of another
+abbrev pub AddsBehind : List ℕ → List ℕ → List ℕ → List ℕ → Type 0
+AddsBehind first second old new = (n : ℕ) × (new ≡ old ++ (first ++ take n second))

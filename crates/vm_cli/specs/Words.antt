@@ -1,7 +1,6 @@
 -- Which lines are served, and the fault of every other (this project's own, docs/COMMAND_LINE.md).
-use Rattle.std.specs.Prelude.{◌≡◌, ℕ, ◌+◌, Bool, true, false, ◌&&◌, ◌==◌, nat_eq, List, [], ◌∷◌, codes, Option, Some, None, Result, Ok, Err, if◌then◌else◌}
+use Rattle.std.specs.Prelude.{◌≡◌, ℕ, ◌+◌, true, false, nat_eq, List, [], ◌∷◌, codes, Option, Some, None, Result, Ok, Err, if◌then◌else◌}
 use Rattle.std.specs.List.{starts_with}
-use Rattle.ram_block.specs.Shape.{ShapeData}
 use Rattle.vm_words.specs.Job.{job}
 use Rattle.vm_words.specs.declared.fault.UsageKind.{UsageKind}
 use Rattle.vm_words.specs.declared.fault.UsageKind.TheVariants.{NeedsThreads}
@@ -13,33 +12,18 @@ use Rattle.vm_cli.specs.declared.answer.Fault.{Fault}
 use Rattle.vm_cli.specs.declared.answer.Fault.TheVariants.{Usage, NotYet, NoMemory}
 use Rattle.vm_cli.specs.declared.words.Caller.{Caller}
 use Rattle.vm_cli.specs.declared.words.Caller.TheVariants.{Still, Threaded}
-use Rattle.vm_cli.specs.declared.words.Served.{Served}
-use Rattle.vm_cli.specs.declared.words.Served.TheVariants.{FirstSave, Assembly}
+use Rattle.vm_cli.specs.Served.{Assembly, CheckFile, Restore, Save, Served, Workload}
 
 -- ---- Which jobs are served
 
--- the smallest shape
-abbrev pub is_one_page : ShapeData → Bool
-is_one_page s = s.vcpus == 1 && s.blocks == 1 && s.pages == 1
-
-abbrev pub is_sliced : Mode → Bool
-is_sliced Sliced = true
-is_sliced Threads = false
-
-abbrev pub is_empty : List ℕ → Bool
-is_empty [] = true
-is_empty (b ∷ bytes) = false
-
--- the first save: the smallest machine, with no input, saved as it is booted
-abbrev pub is_first_save : Job → Bool
-is_first_save (jobs.Save shape stop run mode turns input relay) =
-    is_one_page shape && stop == 0 && run == 0 && is_sliced mode && is_empty input && relay == 0
-is_first_save _ = false
-
--- which job of those that are served it is
+-- which job of those that are served it is; a save in threads isn't yet
 abbrev pub served_of : Job → Option Served
 served_of jobs.Assemble = Some Assembly
-served_of job = if is_first_save job then Some FirstSave else None
+served_of jobs.CheckFile = Some CheckFile
+served_of (jobs.Restore n false) = Some (Restore n)
+served_of (jobs.Save shape stop run Sliced turns input relay) = Some (Save shape input (record { stop = stop; run = run; turns = turns }))
+served_of (jobs.Workload seed) = Some (Workload seed)
+served_of job = None
 
 -- the same, of what words give
 abbrev pub served_in : Result Job (ℕ × UsageKind) → Option Served

@@ -1,10 +1,14 @@
 ghost use Rattle.std.specs.Prelude.{◌≡◌};
-ghost use Rattle.vm_cli.specs.Answer.{fault_status, status_of, fault_of_image, fault_of_write, fault_of_text, fault_of_words};
+ghost use Rattle.vm_cli.specs.Answer.{fault_status, status_of, fault_of_image, fault_of_load, fault_of_save, fault_of_write, fault_of_text, fault_of_words};
+ghost use Rattle.vm_cli.specs.declared.answer.Fault.TheVariants.{NoMemory as out_of_memory};
 
 use crate::write_fault::WriteFault;
+use bg_saver::SaveFault;
 use flat_machine::Order;
 use guest_asm::{AsmFault, AsmKind};
 use image_file::{ImageFault, ImageRefusal};
+use loader::{LoadFault, Refusal};
+use ram_block::NoMemory;
 use vm_words::{UsageKind, WordsFault};
 
 /// Why a job ended before its end.
@@ -15,6 +19,8 @@ pub enum Fault {
     /// The words are a line that isn't served yet.
     NotYet,
     ImageRefused(ImageRefusal),
+    /// The file to be loaded is a layout of no machine.
+    FileRefused(Refusal),
     /// A call on a file failed.
     FileFault,
     /// A call on the console failed.
@@ -36,6 +42,7 @@ impl Fault {
         match self {
             Fault::Usage { .. } | Fault::NotYet => 1,
             Fault::ImageRefused(_) => 2,
+            Fault::FileRefused(_) => 3,
             Fault::FileFault => 4,
             Fault::ConsoleFault => 5,
             Fault::ImageFault => 6,
@@ -69,6 +76,26 @@ impl From<ImageFault> for Fault {
     }
 }
 
+impl From<LoadFault> for Fault {
+    ghost from_gives = { λ e f. f ≡ fault_of_load e };
+
+    fn from(fault: LoadFault) -> Self {
+        match fault {
+            LoadFault::Refused(refusal) => Fault::FileRefused(refusal),
+            LoadFault::ReadFault => Fault::FileFault,
+            LoadFault::NoMemory => Fault::NoMemory,
+        }
+    }
+}
+
+impl From<NoMemory> for Fault {
+    ghost from_gives = { λ _ f. f ≡ out_of_memory };
+
+    fn from(_: NoMemory) -> Self {
+        Fault::NoMemory
+    }
+}
+
 impl From<AsmFault> for Fault {
     ghost from_gives = { λ e f. f ≡ fault_of_text e };
 
@@ -88,6 +115,18 @@ impl From<WriteFault> for Fault {
             WriteFault::FileFault => Fault::FileFault,
             WriteFault::NotEmpty(len) => Fault::NotEmpty { len },
             WriteFault::NoMemory => Fault::NoMemory,
+        }
+    }
+}
+
+impl From<SaveFault> for Fault {
+    ghost from_gives = { λ e f. f ≡ fault_of_save e };
+
+    fn from(fault: SaveFault) -> Self {
+        match fault {
+            SaveFault::FileFault => Fault::FileFault,
+            SaveFault::NotEmpty(len) => Fault::NotEmpty { len },
+            SaveFault::NoMemory => Fault::NoMemory,
         }
     }
 }

@@ -2,14 +2,14 @@ ghost use Rattle.std.specs.Prelude.{◌≡◌, ◌≤◌, ◌+◌, ◌^◌, ℕ,
 ghost use Rattle.guest_asm.specs.declared.assembler.TheConstants.{MAX_TEXT};
 ghost use Rattle.image_file.specs.Image.{ReadsOn};
 ghost use Rattle.medium.specs.Count.{counted};
-ghost use Rattle.medium.specs.Members.{file_state, source_state};
+ghost use Rattle.medium.specs.Members.{file_state, sink_state, source_state};
 ghost use Rattle.medium.specs.States.{Leaves};
 ghost use Rattle.vm_cli.specs.Answer.{fault_in};
-ghost use Rattle.vm_cli.specs.Ends.{IsBeforeOutput, IsNotEmpty, IsUsage, IsWorkDone};
+ghost use Rattle.vm_cli.specs.Work.{IsBeforeOutput, IsNotEmpty, IsUsage, IsWorkDone};
 ghost use Rattle.vm_cli.specs.Jobs.Assembly.{WritesAssembly, assembly_steps};
 ghost use Rattle.vm_cli.specs.Jobs.Common.{IsDurable, IsFilledWith, Takes};
 ghost use Rattle.vm_cli.specs.Parts.{assembled_line};
-ghost use Rattle.vm_cli.specs.Steps.{HasCause};
+ghost use Rattle.vm_cli.specs.Steps.{Faults, HasCause};
 ghost use Rattle.vm_cli.specs.Write.{IsBeforeConsole, IsUnwritten, KeepsFull};
 ghost use Rattle.vm_cli.specs.declared.write_fault.WriteFault.TheVariants.{NoMemory as out_of_memory};
 
@@ -29,11 +29,12 @@ pub(crate) fn assemble_image<S: Source, M: Medium, K: Sink>(
     output: &mut M,
     console: &mut K,
 ) -> Result<(), Fault>
-    ensures cause { (input_old : ℕ) (input_new : ℕ) → HasCause (record { image = S.faults image.old; input = input_old; output = M.faults output.old; console = K.faults console.old }) (record { image = S.faults image.new; input = input_new; output = M.faults output.new; console = K.faults console.new })
+    ensures cause { (old : Faults) (new : Faults)
+        → HasCause (record old { image = S.faults image.old; output = M.faults output.old; console = K.faults console.old }) (record new { image = S.faults image.new; output = M.faults output.new; console = K.faults console.new })
         (assembly_steps (source_state S.Source image.old) (file_state M.Readable output.old)) (fault_in result) }
     ensures done { IsWorkDone (fault_in result) → (bytes : List ℕ)
         × WritesAssembly bytes (source_state S.Source image.old) (source_state S.Source image.new) (file_state M.Readable output.old) (file_state M.Readable output.new)
-        × Takes (fault_in result) (assembled_line (length bytes)) (K.taken console.old) (K.taken console.new) }
+        × Takes (fault_in result) (assembled_line (length bytes)) (sink_state K.Sink console.old) (sink_state K.Sink console.new) }
 
     ensures words_stand { IsUsage (fault_in result) → ⊥ }
     ensures read { ReadsOn (MAX_TEXT + 1) (source_state S.Source image.old) (source_state S.Source image.new) }

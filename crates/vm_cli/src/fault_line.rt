@@ -1,17 +1,27 @@
 ghost use Rattle.std.specs.Prelude.{◌≡◌, [], ◌∷◌, ◌++◌};
 ghost use Rattle.std.specs.Fmt.{decimal};
-ghost use Rattle.vm_cli.specs.FaultLine.{asm_text, elf_text, fault_line, number_then, then_number, usage_text};
+ghost use Rattle.vm_cli.specs.FaultLine.{asm_text, elf_text, fault_line, file_words, number_then, then_number, two_numbers, usage_text};
 ghost use Rattle.vm_cli.specs.Parts.{parts_text};
+ghost use Rattle.loader.specs.declared.refusal.Refusal.TheVariants.{Device as device_refusal, Header as header_refusal, Name as name_refusal};
 
 use crate::Fault;
 use crate::parts::Part;
+use device_state::DeviceFault;
 use guest_asm::AsmKind;
 use image_file::{ElfKind, ImageRefusal};
+use loader::Refusal;
+use mapped_ram_header::HeaderFault;
 use vm_words::UsageKind;
+
+/// The end of a line.
+const END: Part = Part::Text("\n");
+
+/// Nothing more behind a line.
+const NOTHING: Part = Part::Text("");
 
 /// The line of a fault, with its line feed.
 #[tactic(auto, unfolding(crate::specs::FaultLine::fault_line))]
-pub(crate) fn fault_line(fault: Fault) -> [Part; 5]
+pub(crate) fn fault_line(fault: Fault) -> [Part; 7]
     ensures { parts_text result ≡ fault_line fault }
 {
     match fault {
@@ -24,6 +34,7 @@ pub(crate) fn fault_line(fault: Fault) -> [Part; 5]
         Fault::ImageRefused(ImageRefusal::Elf { kind, at }) => {
             word_and_number("fault 2 image elf ", elf_text(kind), at)
         }
+        Fault::FileRefused(refusal) => file_line(refusal),
         Fault::FileFault => text("fault 4 file-fault"),
         Fault::ConsoleFault => text("fault 5 console-fault"),
         Fault::ImageFault => text("fault 6 image-fault"),
@@ -35,56 +46,127 @@ pub(crate) fn fault_line(fault: Fault) -> [Part; 5]
     }
 }
 
-// A line of words.
-fn text(words: &'static str) -> [Part; 5]
-    ensures { parts_text result ≡ words.now ++ 10 ∷ [] }
+// The line of a file that is refused.
+fn file_line(refusal: Refusal) -> [Part; 7]
+    ensures { parts_text result ≡ file_words refusal ++ 10 ∷ [] }
+{
+    match refusal {
+        Refusal::Truncated { at } => number("fault 3 file truncated ", at),
+        Refusal::Magic(v) => number("fault 3 file magic ", u64::from(v)),
+        Refusal::StreamVersion(v) => number("fault 3 file stream-version ", u64::from(v)),
+        Refusal::Config { at, found } => {
+            two_numbers("fault 3 file config ", at, u64::from(found))
+        }
+        Refusal::Section { at, found } => {
+            two_numbers("fault 3 file section ", at, u64::from(found))
+        }
+        Refusal::RamVersion(v) => number("fault 3 file ram-version ", u64::from(v)),
+        Refusal::Flags { at, v } => two_numbers("fault 3 file flags ", at, v),
+        Refusal::Total(v) => number("fault 3 file total ", v),
+        Refusal::Name { block, at, found } => name_line(block, at, found),
+        Refusal::Length { block, v } => two_numbers("fault 3 file length ", u64::from(block), v),
+        Refusal::Header { block, fault } => header_line(u64::from(block), fault),
+        Refusal::Footer { at, found } => {
+            two_numbers("fault 3 file footer ", at, u64::from(found))
+        }
+        Refusal::Device { at, fault } => device_line(at, fault),
+        Refusal::Trailing { at } => number("fault 3 file trailing ", at),
+    }
+}
+
+// The line of a block with another name.
+fn name_line(block: u32, at: u64, found: u8) -> [Part; 7]
+    ensures { parts_text result ≡ file_words (name_refusal block at found) ++ 10 ∷ [] }
 {
     [
-        Part::Text(words),
-        Part::Text("\n"),
-        Part::Text(""),
-        Part::Text(""),
-        Part::Text(""),
+        Part::Text("fault 3 file name "),
+        Part::Number(u64::from(block)),
+        Part::Text(" "),
+        Part::Number(at),
+        Part::Text(" "),
+        Part::Number(u64::from(found)),
+        END,
     ]
+}
+
+// The line of a block with another mapped-ram header.
+fn header_line(block: u64, fault: HeaderFault) -> [Part; 7]
+    ensures { parts_text result ≡ file_words (header_refusal block fault) ++ 10 ∷ [] }
+{
+    match fault {
+        HeaderFault::Version(v) => {
+            two_numbers("fault 3 file header-version ", block, u64::from(v))
+        }
+        HeaderFault::PageSize(v) => two_numbers("fault 3 file header-page-size ", block, v),
+        HeaderFault::BitmapOffset(v) => {
+            two_numbers("fault 3 file header-bitmap-offset ", block, v)
+        }
+        HeaderFault::PagesOffset(v) => two_numbers("fault 3 file header-pages-offset ", block, v),
+    }
+}
+
+// The line of a device with a number past its limit.
+fn device_line(at: u64, fault: DeviceFault) -> [Part; 7]
+    ensures { parts_text result ≡ file_words (device_refusal at fault) ++ 10 ∷ [] }
+{
+    match fault {
+        DeviceFault::Steps(v) => two_numbers("fault 3 file device-steps ", at, v),
+        DeviceFault::State(v) => two_numbers("fault 3 file device-state ", at, u64::from(v)),
+        DeviceFault::SerialLength(v) => {
+            two_numbers("fault 3 file device-serial-length ", at, u64::from(v))
+        }
+        DeviceFault::InputLength(v) => {
+            two_numbers("fault 3 file device-input-length ", at, u64::from(v))
+        }
+        DeviceFault::Clock(v) => two_numbers("fault 3 file device-clock ", at, v),
+    }
+}
+
+// A line of words.
+fn text(words: &'static str) -> [Part; 7]
+    ensures { parts_text result ≡ words.now ++ 10 ∷ [] }
+{
+    let words = Part::Text(words);
+    [words, END, NOTHING, NOTHING, NOTHING, NOTHING, NOTHING]
 }
 
 // A line of words and a number.
-fn number(words: &'static str, n: u64) -> [Part; 5]
+fn number(words: &'static str, n: u64) -> [Part; 7]
     ensures { parts_text result ≡ (words.now ++ decimal n) ++ 10 ∷ [] }
 {
-    [
-        Part::Text(words),
-        Part::Number(n),
-        Part::Text("\n"),
-        Part::Text(""),
-        Part::Text(""),
-    ]
+    let words = Part::Text(words);
+    let number = Part::Number(n);
+    [words, number, END, NOTHING, NOTHING, NOTHING, NOTHING]
+}
+
+// A line of words and two numbers.
+fn two_numbers(words: &'static str, m: u64, n: u64) -> [Part; 7]
+    ensures { parts_text result ≡ (words.now ++ two_numbers m n) ++ 10 ∷ [] }
+{
+    let words = Part::Text(words);
+    let first = Part::Number(m);
+    let second = Part::Number(n);
+    [words, first, Part::Text(" "), second, END, NOTHING, NOTHING]
 }
 
 // A line of words, a number and the word of a kind.
-fn number_and_word(words: &'static str, n: u64, kind: &'static str) -> [Part; 5]
+fn number_and_word(words: &'static str, n: u64, kind: &'static str) -> [Part; 7]
     ensures { parts_text result ≡ (words.now ++ number_then n kind.now) ++ 10 ∷ [] }
 {
-    [
-        Part::Text(words),
-        Part::Number(n),
-        Part::Text(" "),
-        Part::Text(kind),
-        Part::Text("\n"),
-    ]
+    let words = Part::Text(words);
+    let number = Part::Number(n);
+    let kind = Part::Text(kind);
+    [words, number, Part::Text(" "), kind, END, NOTHING, NOTHING]
 }
 
 // A line of words, the word of a kind and a number.
-fn word_and_number(words: &'static str, kind: &'static str, n: u64) -> [Part; 5]
+fn word_and_number(words: &'static str, kind: &'static str, n: u64) -> [Part; 7]
     ensures { parts_text result ≡ (words.now ++ then_number kind.now n) ++ 10 ∷ [] }
 {
-    [
-        Part::Text(words),
-        Part::Text(kind),
-        Part::Text(" "),
-        Part::Number(n),
-        Part::Text("\n"),
-    ]
+    let words = Part::Text(words);
+    let kind = Part::Text(kind);
+    let number = Part::Number(n);
+    [words, kind, Part::Text(" "), number, END, NOTHING, NOTHING]
 }
 
 // The word of what is wrong with the words of a line.

@@ -1,148 +1,228 @@
-ghost use Rattle.std.specs.Prelude.{◌≡◌, ◌<◌, ◌≤◌, ◌+◌, ◌-◌, ◌^◌, ◌++◌, ◌==◌, not, ℕ, List, [], ◌∷◌, Some, length, drop, replicate, option_map, IfSome, OnOk, IfOk, IfErr};
-ghost use Rattle.std.specs.List.{list_all};
-ghost use Rattle.medium.specs.Count.{HasRisen, counted};
-ghost use Rattle.medium.specs.Members.{file_state};
-ghost use Rattle.flat_machine.specs.Machine.{boot};
-ghost use Rattle.vm_cli.specs.FirstSave.{first_head, laid, one_page, with_page};
-ghost use Rattle.vm_cli.specs.Jobs.Common.{IsDurable, IsFilledWith};
-ghost use Rattle.file_plan.specs.Layout.{file_of, tail_text};
-ghost use Rattle.vm_cli.specs.Write.{IsUnwritten, KeepsFull};
-ghost use Rattle.vm_cli.specs.declared.write_fault.WriteFault.TheVariants.{FileFault as file_fault, NoMemory as out_of_memory};
+ghost use Rattle.std.specs.Prelude.{◌≡◌, ◌⊎◌, ◌≤◌, ◌+◌, ℕ, List, [], ◌∷◌, length, All, Some, None, IfErr, IfOk};
+ghost use Rattle.bg_saver.specs.declared.save_end.SaveEnd.TheVariants.{Complete as complete};
+ghost use Rattle.bg_saver.specs.Save.{HasJustBegun};
+ghost use Rattle.flat_machine.specs.Laws.{HasRoom};
+ghost use Rattle.flat_machine.specs.Machine.{IsMachine, Rest, boot};
+ghost use Rattle.image_file.specs.Image.{ReadsOn, image_of};
+ghost use Rattle.image_file.specs.declared.raw.TheConstants.{MOST_IMAGE};
+ghost use Rattle.medium.specs.Members.{file_state, sink_state, source_state};
+ghost use Rattle.medium.specs.States.{Leaves};
+ghost use Rattle.ram_block.specs.declared.limits.TheConstants.{MAX_INPUT, MAX_PHASE};
+ghost use Rattle.sliced_run.specs.Phase.{IsPhaseOf, LeavesFile};
+ghost use Rattle.vm_words.specs.Limits.{IsSave};
+ghost use Rattle.vm_words.specs.Turns.{IsTurn};
+ghost use Rattle.vm_words.specs.declared.job.Mode.TheVariants.{Sliced as sliced};
+ghost use Rattle.vm_cli.specs.Answer.{fault_in};
+ghost use Rattle.vm_cli.specs.Jobs.Common.{Takes, TakesReport, read_image_step};
+ghost use Rattle.vm_cli.specs.Jobs.Save.{BootsImage, EndsEarly, EndsReported, IsInstant, IsOfImage, KeepsImages, LeavesAtInstant, LeavesMachine, LeavesSaved, ReadsImage, ReportsFailed, SavesMachine, image_fault, report_of, save_machine_steps, save_steps};
+ghost use Rattle.vm_cli.specs.Outside.{end_of};
+ghost use Rattle.vm_cli.specs.Steps.{Faults, HasCause, Passes, Step};
+ghost use Rattle.vm_cli.specs.Work.{IsNotConsole, IsNotEmpty, IsUsage, IsWorkDone};
+ghost use Rattle.vm_cli.specs.Write.{KeepsFull};
+ghost use Rattle.vm_cli.specs.declared.answer.Fault.{Fault as A_fault};
+ghost use Rattle.vm_cli.specs.declared.answer.Fault.TheVariants.{NoMemory as out_of_memory};
 
-use crate::write_fault::WriteFault;
-use device_state::put_devices;
-use file_plan::{GATE, Plan, tail};
-use flat_machine::Machine;
-use medium::Medium;
-use page_bitmap::Bitmap;
-use ram_block::{NoMemory, PageBuf, Shape};
+use crate::Fault;
+use crate::laws::a_saved_machine_loads_back;
+use crate::orders::Orders;
+use bg_saver::{PhaseOut, SaveEnd, SaveJob, Saver};
+use flat_machine::{
+    Machine, Order, a_phase_with_room_ends_at_rest, an_event_keeps_what_its_laws_need,
+    an_event_leaves_the_rest,
+};
+use image_file::read_image;
+use medium::{Medium, Sink, Source};
+use ram_block::{NoMemory, Shape};
+use sliced_run::run_turns;
 use std::alloc::Global;
+use vm_report::{SaveLine, put_report};
+use vm_stop::Stopped;
+use vm_words::{Input, Turns};
 
-/// Writes the pieces of a file of one block and one page, in the order that leaves a crash no half file.
-fn write_pieces<M: Medium>(
-    output: &mut M,
-    plan: &Plan,
-    page: &PageBuf,
-    head: &[u8],
-    tail: &[u8],
-) -> Result<(), WriteFault>
-    requires plan { plan.now ≡ one_page }
-    requires some_head { 1 ≤ length head.now }
-    requires head { length head.now ≤ 2 ^ 30 }
-    requires tail { length tail.now ≤ 2 ^ 30 }
-
-    ensures written { OnOk result (IsFilledWith (laid plan.now page.now head.now tail.now) (file_state M.Readable output.old) (file_state M.Readable output.new)) }
-    ensures synced { OnOk result (M.syncs output.new ≡ counted (counted (counted (M.syncs output.old)))) }
-    ensures durable { OnOk result (IsDurable (file_state M.Readable output.new)) }
-    ensures unwritten { IfErr result (IsUnwritten (file_state M.Readable output.old) (file_state M.Readable output.new)) }
-    ensures kept { KeepsFull (file_state M.Readable output.old) (file_state M.Readable output.new) }
-    ensures enough { (result ≡ Err out_of_memory) → ⊥ }
-{
-    let len = output.len()?;
-    if len > 0 {
-        return Err(WriteFault::NotEmpty(len));
-    }
-    output.write_at(0, &[0])?;
-    output.sync()?;
-    write_page(output, plan.page_at(0), page)?;
-    output.write_at(1, &head[1..])?;
-    output.write_at(plan.tail_at(), tail)?;
-    output.sync()?;
-    output.write_at(0, &[GATE])?;
-    output.sync()?;
-    Ok(())
-}
-
-// Writes a page at its place, unless it is all zeros.
-fn write_page<M: Medium>(output: &mut M, at: u64, page: &PageBuf) -> Result<(), WriteFault>
-    requires { at ≤ 2 ^ 31 }
-    ensures told { OnOk result (M.told output.new ≡ option_map (with_page at page.now) (M.told output.old)) }
-    ensures syncs { M.syncs output.new ≡ M.syncs output.old }
-    ensures fault { IfErr result (λ e. (e ≡ file_fault) × HasRisen (M.faults output.old) (M.faults output.new)) }
-    ensures count { M.faults output.old ≤ M.faults output.new }
-{
-    if !is_zero(page.bytes()) {
-        output.write_at(at, page.bytes())?;
-    }
-    Ok(())
-}
-
-// Whether all bytes are 0.
-pub(crate) fn is_zero(bytes: &[u8]) -> bool
-    ensures { result ≡ list_all (λ b. b == 0) bytes.now }
-{
-    bytes.iter().all(|b| *b == 0)
-}
-
-/// Saves a machine with one vCPU, one block and one page at boot, whose RAM begins with the image. All memory
-/// is taken before the first call on the file.
-pub(crate) fn save_boot<M: Medium>(
+/// Boots the machine of an image, runs its first phase, saves it into the output while it runs its second, and reports
+/// it on the console.
+pub(crate) fn save_image<S: Source, M: Medium, K: Sink>(
     alloc: Global,
     shape: &Shape,
-    image: &[u8],
+    serial: &Input,
+    stop: u32,
+    run: u32,
+    turns: &Turns,
+    image: &mut S,
     output: &mut M,
-) -> Result<(), WriteFault>
-    requires shape { shape.now ≡ one_page }
-    requires image { length image.now ≤ 4096 }
+    console: &mut K,
+    orders: &mut Orders,
+) -> Result<(), Fault>
+    requires limits { IsSave shape.now stop run sliced turns.now serial.now 0 }
+    requires first { orders.old.first.members ≡ [] }
+    requires second { orders.old.second.members ≡ [] }
+    ensures cause { (old : Faults) (new : Faults)
+        → HasCause (record old { image = S.faults image.old; output = M.faults output.old; console = K.faults console.old }) (record new { image = S.faults image.new; output = M.faults output.new; console = K.faults console.new })
+        (save_steps shape.now (source_state S.Source image.old) (file_state M.Readable output.old)) (fault_in result) }
+    ensures done { IsWorkDone (fault_in result) → (bytes : List ℕ) × ReadsImage shape.now bytes (source_state S.Source image.old) (source_state S.Source image.new)
+        × (saved : SavesMachine (boot shape.now bytes serial.now) (record { stop = stop; run = run; turns = turns.now }) (file_state M.Readable output.old) (file_state M.Readable output.new) (end_of (fault_in result) orders.new))
+        × Takes (fault_in result) (report_of complete saved.out) (sink_state K.Sink console.old) (sink_state K.Sink console.new) }
+    ensures failed { (fault : A_fault) → fault_in result ≡ Some fault → IsNotConsole fault
+        → (EndsEarly shape.now serial.now (record { stop = stop; run = run; turns = turns.now }) (source_state S.Source image.old) (source_state S.Source image.new) (output.new ≡ output.old) (file_state M.Readable output.old) (file_state M.Readable output.new) (end_of (fault_in result) orders.new) × (console.new ≡ console.old))
+        ⊎ ((bytes : List ℕ) × ReadsImage shape.now bytes (source_state S.Source image.old) (source_state S.Source image.new)
+        × ReportsFailed TakesReport (boot shape.now bytes serial.now) (record { stop = stop; run = run; turns = turns.now }) (file_state M.Readable output.old) (file_state M.Readable output.new) (sink_state K.Sink console.old) (sink_state K.Sink console.new) (end_of (fault_in result) orders.new)) }
 
-    ensures written { OnOk result (IsFilledWith (file_of (boot one_page image.now [])) (file_state M.Readable output.old) (file_state M.Readable output.new)) }
-    ensures synced { OnOk result (M.syncs output.new ≡ counted (counted (counted (M.syncs output.old)))) }
-    ensures durable { OnOk result (IsDurable (file_state M.Readable output.new)) }
-    ensures unwritten { IfErr result (IsUnwritten (file_state M.Readable output.old) (file_state M.Readable output.new)) }
+    ensures words_stand { IsUsage (fault_in result) → ⊥ }
+    ensures read { ReadsOn (MOST_IMAGE + 1) (source_state S.Source image.old) (source_state S.Source image.new) }
+    ensures not_empty { IsNotEmpty (fault_in result) → Leaves (file_state M.Readable output.old) (file_state M.Readable output.new) }
     ensures kept { KeepsFull (file_state M.Readable output.old) (file_state M.Readable output.new) }
-    ensures no_memory { result ≡ Err out_of_memory → output.new ≡ output.old }
+    ensures count { K.faults console.old ≤ K.faults console.new }
 {
-    let plan = Plan::of(shape);
-    let machine = Machine::boot(alloc, *shape, image, &[])?;
-    let devices = put_devices(alloc, &machine)?;
-    let page = only_page(machine);
-    let head = head_of(alloc, &plan, &page)?;
-    let rest = tail_of(alloc, &devices)?;
-    write_pieces(output, &plan, &page, &head, &rest)
+    let machine = boot_image(alloc, shape, serial.bytes(), image)?;
+    save_machine(alloc, machine, stop, run, turns, output, console, orders)
 }
 
-// The head of the file.
-#[tactic(auto, unfolding(crate::specs::FirstSave::first_head))]
-fn head_of(alloc: Global, plan: &Plan, page: &PageBuf) -> Result<Vec<u8>, NoMemory>
-    requires { plan.now ≡ one_page }
-    ensures { IfOk result (λ head. head.items ≡ first_head page.now) }
+// The machine that boots with the image. What was read of it is let go here.
+fn boot_image<S: Source>(
+    alloc: Global,
+    shape: &Shape,
+    serial: &[u8],
+    image: &mut S,
+) -> Result<Machine, Fault>
+    requires { length serial.now ≤ MAX_INPUT }
+    ensures booted { IfOk result (BootsImage shape.now serial.now (source_state S.Source image.old) (source_state S.Source image.new)) }
+    ensures passes { IfOk result (λ _. Passes (read_image_step (λ bytes. image_fault (image_of bytes shape.now)) (source_state S.Source image.old))) }
+    ensures cause { IfErr result (λ fault. (old : Faults) (new : Faults) (steps : List Step)
+        → HasCause (record old { image = S.faults image.old }) (record new { image = S.faults image.new })
+        (read_image_step (λ bytes. image_fault (image_of bytes shape.now)) (source_state S.Source image.old) ∷ steps) (Some fault)) }
+    ensures fault { IfErr result IsOfImage }
+    ensures read { ReadsOn (MOST_IMAGE + 1) (source_state S.Source image.old) (source_state S.Source image.new) }
+    ensures rest { IfOk result Rest }
 {
-    let bits = bits_of(alloc, page)?;
-    let mut head = vec![in alloc; 0; plan.head_len(0)]?;
-    plan.put_head(0, &bits, &mut head);
-    Ok(head)
+    let bytes = read_image(alloc, image, shape)?;
+    Ok(Machine::boot(alloc, *shape, &bytes, serial)?)
 }
 
-// The bitmap of the one page: its bit is set where the page isn't all zeros.
-fn bits_of(alloc: Global, page: &PageBuf) -> Result<Bitmap, NoMemory>
-    ensures { IfOk result (λ bits. bits ≡ record { pages = 1; bits = not (list_all (λ b. b == 0) page.now) ∷ [] }) }
+/// Runs the first phase of a booted machine, saves it into the output while it runs its second, and reports it on the
+/// console. The order of each phase is left in `orders`, once its events are made.
+pub(crate) fn save_machine<M: Medium, K: Sink>(
+    alloc: Global,
+    machine: Machine,
+    stop: u32,
+    run: u32,
+    turns: &Turns,
+    output: &mut M,
+    console: &mut K,
+    orders: &mut Orders,
+) -> Result<(), Fault>
+    requires rest { Rest machine }
+    requires room { HasRoom machine stop }
+    requires stop { stop ≤ MAX_PHASE }
+    requires run { run ≤ MAX_PHASE }
+    requires turns { All (IsTurn machine.shape.vcpus) turns.now }
+    requires first { orders.old.first.members ≡ [] }
+    requires second { orders.old.second.members ≡ [] }
+    ensures cause { (old : Faults) (new : Faults)
+        → HasCause (record old { output = M.faults output.old; console = K.faults console.old }) (record new { output = M.faults output.new; console = K.faults console.new })
+        (save_machine_steps (file_state M.Readable output.old)) (fault_in result) }
+    ensures done { IsWorkDone (fault_in result) → (saved : SavesMachine machine (record { stop = stop; run = run; turns = turns.now }) (file_state M.Readable output.old) (file_state M.Readable output.new) (end_of (fault_in result) orders.new))
+        × Takes (fault_in result) (report_of complete saved.out) (sink_state K.Sink console.old) (sink_state K.Sink console.new) }
+    ensures failed { (fault : A_fault) → fault_in result ≡ Some fault → IsNotConsole fault
+        → (LeavesMachine machine (record { stop = stop; run = run; turns = turns.now }) (output.new ≡ output.old) (file_state M.Readable output.old) (file_state M.Readable output.new) (end_of (fault_in result) orders.new) × (console.new ≡ console.old))
+        ⊎ ReportsFailed TakesReport machine (record { stop = stop; run = run; turns = turns.now }) (file_state M.Readable output.old) (file_state M.Readable output.new) (sink_state K.Sink console.old) (sink_state K.Sink console.new) (end_of (fault_in result) orders.new) }
+
+    ensures words_stand { IsUsage (fault_in result) → ⊥ }
+    ensures not_empty { IsNotEmpty (fault_in result) → Leaves (file_state M.Readable output.old) (file_state M.Readable output.new) }
+    ensures kept { KeepsFull (file_state M.Readable output.old) (file_state M.Readable output.new) }
+    ensures count { K.faults console.old ≤ K.faults console.new }
 {
-    let zeros = is_zero(page.bytes());
-    let mut bits = Bitmap::new(alloc, 1)?;
-    if !zeros {
-        bits.set(0);
+    let mut machine = machine;
+    orders.first = reach_instant(alloc, &mut machine, stop)?;
+    let out = save_instant(alloc, machine, run, turns, output)?;
+    let Some(end) = out.saved else { unreachable!() };
+    let ended = report_save(end, &out, console);
+    orders.second = out.order;
+    ended
+}
+
+// Runs the first phase of a booted machine by rounds, up to the instant.
+fn reach_instant(alloc: Global, machine: &mut Machine, stop: u32) -> Result<Order, NoMemory>
+    requires rest { Rest machine.old }
+    requires room { HasRoom machine.old stop }
+    requires stop { stop ≤ MAX_PHASE }
+    ensures instant { IfOk result (λ order. IsInstant machine.old stop order.members machine.new) }
+    ensures shape { IfOk result (λ _. machine.new.shape ≡ machine.old.shape) }
+{
+    a_phase_with_room_ends_at_rest();
+    an_event_leaves_the_rest();
+    an_event_keeps_what_its_laws_need();
+    let _before = machine.clock();
+    let order = machine.rounds(alloc, stop)?;
+    let _after = machine.clock();
+    Ok(order)
+}
+
+// Stops the machine, begins its save on the output, and runs its second phase.
+fn save_instant<M: Medium>(
+    alloc: Global,
+    machine: Machine,
+    run: u32,
+    turns: &Turns,
+    output: &mut M,
+) -> Result<PhaseOut, Fault>
+    requires rest { Rest machine }
+    requires run { run ≤ MAX_PHASE }
+    requires turns { All (IsTurn machine.shape.vcpus) turns.now }
+    ensures phase { IfOk result (IsPhaseOf machine run turns.now) }
+    ensures saved { IfOk result (λ out. LeavesSaved machine out.saved (file_state M.Readable output.old) (file_state M.Readable output.new)) }
+    ensures unsaved { IfErr result (λ fault. LeavesAtInstant machine (output.new ≡ output.old) (file_state M.Readable output.old) (file_state M.Readable output.new) (Some fault)) }
+    ensures crash { KeepsImages machine (file_state M.Readable output.old) (file_state M.Readable output.new) }
+    ensures kept { KeepsFull (file_state M.Readable output.old) (file_state M.Readable output.new) }
+    ensures limits { IsMachine machine }
+{
+    a_saved_machine_loads_back();
+    let Ok(stopped) = vm_stop::stop(alloc, machine) else {
+        return Err(Fault::NoMemory);
+    };
+    let saver = Saver::begin(alloc, &stopped, output)?;
+    run_saved(alloc, stopped, saver, run, turns, output)
+}
+
+// Runs the second phase of a machine whose save has just begun.
+fn run_saved<M: Medium>(
+    alloc: Global,
+    stopped: Stopped,
+    saver: Saver,
+    run: u32,
+    turns: &Turns,
+    output: &mut M,
+) -> Result<PhaseOut, Fault>
+    requires rest { Rest stopped }
+    requires run { run ≤ MAX_PHASE }
+    requires turns { All (IsTurn stopped.shape.vcpus) turns.now }
+    requires begun { HasJustBegun saver stopped (file_state M.Readable output.old) }
+    ensures phase { IfOk result (IsPhaseOf stopped run turns.now) }
+    ensures file { IfOk result (λ out. LeavesFile stopped out.saved (file_state M.Readable output.old) (file_state M.Readable output.new)) }
+    ensures no_memory { IfErr result (λ fault. (fault ≡ out_of_memory) × (output.new ≡ output.old)) }
+{
+    let job = SaveJob {
+        saver,
+        medium: output,
+    };
+    match run_turns(alloc, stopped.into_machine(), run, turns, job) {
+        Ok(out) => Ok(out),
+        Err(_) => Err(Fault::NoMemory),
     }
-    Ok(bits)
 }
 
-// What stands behind the page.
-fn tail_of(alloc: Global, devices: &[u8]) -> Result<Vec<u8>, NoMemory>
-    ensures { IfOk result (λ text. text.items ≡ tail_text ++ devices.now) }
+// Prints the report of a save that ended so, and says how the job ends: a save that failed is reported, too.
+fn report_save<K: Sink>(end: SaveEnd, out: &PhaseOut, console: &mut K) -> Result<(), Fault>
+    ensures report { EndsReported end out.now (fault_in result) (sink_state K.Sink console.old) (sink_state K.Sink console.new) }
+    ensures count { K.faults console.old ≤ K.faults console.new }
 {
-    let mut text = Vec::new(alloc);
-    text.extend_from_slice(&tail())?;
-    text.extend_from_slice(devices)?;
-    Ok(text)
-}
-
-// The one page of a machine.
-fn only_page(machine: Machine) -> PageBuf
-    requires { machine.shape ≡ one_page }
-    ensures { result ≡ machine.ram }
-{
-    let mut ram = machine.into_parts().ram;
-    match ram.pop() {
-        Some(page) => page,
-        None => unreachable!(),
+    let line = SaveLine {
+        end,
+        blocked: out.blocked,
+        counts: out.counts,
+    };
+    let reported = put_report(Some(line), &out.machine, console);
+    match end {
+        SaveEnd::Complete => reported.map_err(|_| Fault::ConsoleFault),
+        SaveEnd::Failed => Err(Fault::FileFault),
     }
 }

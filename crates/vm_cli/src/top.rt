@@ -1,4 +1,4 @@
-ghost use Rattle.std.specs.Prelude.{◌≡◌, ◌≤◌, [], Some, map, string_bytes};
+ghost use Rattle.std.specs.Prelude.{◌≡◌, ◌≤◌, map, string_bytes};
 ghost use Rattle.medium.specs.Bytes.{AddsFront, BecomesTold};
 ghost use Rattle.medium.specs.Members.{sink_state};
 ghost use Rattle.vm_cli.specs.Answer.{status_of};
@@ -10,10 +10,10 @@ ghost use Rattle.vm_cli.specs.declared.words.Caller.TheVariants.{Still as still,
 
 use crate::fault_line::fault_line;
 use crate::job::run_job;
+use crate::orders::Orders;
 use crate::parts::put_parts;
 use crate::words::Caller;
 use crate::{Answer, Fault};
-use flat_machine::Order;
 use medium::{Medium, Sink, Source};
 use ram_block::Gate;
 use std::alloc::Global;
@@ -79,42 +79,53 @@ fn serve<S: Source, M: Medium, K: Sink>(
     caller: Caller,
     words: &[String],
     image: &mut S,
-    _input: &mut M,
+    input: &mut M,
     output: &mut M,
     console: &mut K,
 ) -> Answer
     ensures status { result.status ≡ status_of result.fault }
     ensures ends { Ends caller (map string_bytes words.now)
-        (outside S.Source M.Readable K.Sink image.old _input.old output.old console.old)
-        (outside S.Source M.Readable K.Sink image.new _input.new output.new console.new)
-        (record { image = image.new ≡ image.old; input = _input.new ≡ _input.old; output = output.new ≡ output.old; console = console.new ≡ console.old })
+        (outside S.Source M.Readable K.Sink image.old input.old output.old console.old)
+        (outside S.Source M.Readable K.Sink image.new input.new output.new console.new)
+        (record { image = image.new ≡ image.old; input = input.new ≡ input.old; output = output.new ≡ output.old; console = console.new ≡ console.old })
         (record { fault = result.fault; first = result.first.members; second = result.second.members }) }
 {
-    match run_job(alloc, caller, words, image, output, console) {
-        Ok(()) => answer(alloc, None),
+    let mut orders = Orders::empty(alloc);
+    match run_job(
+        alloc,
+        caller,
+        words,
+        image,
+        input,
+        output,
+        console,
+        &mut orders,
+    ) {
+        Ok(()) => answer(None, orders),
         Err(fault) => {
             print_fault(console, fault);
-            answer(alloc, Some(fault))
+            answer(Some(fault), orders)
         }
     }
 }
 
-// How a job ended that ran no phase.
-fn answer(alloc: Global, fault: Option<Fault>) -> Answer
+// How a job ended: with this fault, if any, and these orders.
+fn answer(fault: Option<Fault>, orders: Orders) -> Answer
     ensures status { result.status ≡ status_of fault }
     ensures fault { result.fault ≡ fault }
-    ensures first { result.first.members ≡ [] }
-    ensures second { result.second.members ≡ [] }
+    ensures first { result.first ≡ orders.first }
+    ensures second { result.second ≡ orders.second }
 {
     let status = match fault {
         Some(fault) => fault.status(),
         None => 0,
     };
+    let Orders { first, second } = orders;
     Answer {
         status,
         fault,
-        first: Order::empty(alloc),
-        second: Order::empty(alloc),
+        first,
+        second,
     }
 }
 

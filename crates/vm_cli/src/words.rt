@@ -1,8 +1,8 @@
-ghost use Rattle.std.specs.Prelude.{◌≡◌, ◌+◌, ◌<◌, ◌^◌, None, Some, length, map, string_bytes, IfOk, IfErr};
-ghost use Rattle.vm_cli.specs.Words.{forbidden_word, is_first_save, is_one_page, line_fault, mode_word, served_line, served_of, threads_word, IsFaultOfLine};
+ghost use Rattle.std.specs.Prelude.{◌≡◌, ◌+◌, ◌<◌, ◌^◌, None, is_some, length, map, string_bytes, true, IfOk, IfErr};
+ghost use Rattle.vm_cli.specs.Words.{forbidden_word, line_fault, mode_word, served_line, served_of, threads_word, IsFaultOfLine};
+ghost use Rattle.vm_words.specs.Limits.{IsWithinLimits};
 
 use crate::Fault;
-use ram_block::Shape;
 use std::alloc::Global;
 use vm_words::{Job, Mode, UsageKind, line_of};
 
@@ -15,20 +15,13 @@ pub(crate) enum Caller {
     Threaded,
 }
 
-/// The jobs that are served.
-#[derive(Clone, Copy, Debug)]
-pub(crate) enum Served {
-    /// The smallest machine, with no input, saved as it is booted.
-    FirstSave,
-    /// A text made into bytes.
-    Assembly,
-}
-
 /// The job of the words, where it is served.
 #[tactic(auto, unfolding(crate::specs::Words::line_fault, crate::specs::Words::served_line))]
-pub(crate) fn serve_line(alloc: Global, caller: Caller, words: &[String]) -> Result<Served, Fault>
-    ensures ok { IfOk result (λ served. served_line (map string_bytes words.now) ≡ Some served) }
-    ensures served { IfOk result (λ served. line_fault caller (map string_bytes words.now) ≡ None) }
+pub(crate) fn serve_line(alloc: Global, caller: Caller, words: &[String]) -> Result<Job, Fault>
+    ensures ok { IfOk result (λ job. served_line (map string_bytes words.now) ≡ served_of job) }
+    ensures served { IfOk result (λ job. is_some (served_of job) ≡ true) }
+    ensures limits { IfOk result IsWithinLimits }
+    ensures no_fault { IfOk result (λ job. line_fault caller (map string_bytes words.now) ≡ None) }
     ensures fault { IfErr result (IsFaultOfLine caller (map string_bytes words.now)) }
 {
     let job = line_of(alloc, words)?;
@@ -38,7 +31,10 @@ pub(crate) fn serve_line(alloc: Global, caller: Caller, words: &[String]) -> Res
             kind: UsageKind::NeedsThreads,
         });
     }
-    served_of(&job).ok_or(Fault::NotYet)
+    if !is_served(&job) {
+        return Err(Fault::NotYet);
+    }
+    Ok(job)
 }
 
 // The word that asks for threads, where the caller starts none.
@@ -79,44 +75,14 @@ fn mode_word(before: u32, words: &[String]) -> u32
     }
 }
 
-// Which job of those that are served it is.
-fn served_of(job: &Job) -> Option<Served>
-    ensures { result ≡ served_of job.now }
+// Whether the job is served; a save in threads isn't yet.
+fn is_served(job: &Job) -> bool
+    ensures { result ≡ is_some (served_of job.now) }
 {
     match job {
-        Job::Assemble => Some(Served::Assembly),
-        _ if is_first_save(job) => Some(Served::FirstSave),
-        _ => None,
-    }
-}
-
-// Whether the job is the first save: the smallest machine, with no input, saved as it is booted.
-fn is_first_save(job: &Job) -> bool
-    ensures { result ≡ is_first_save job.now }
-{
-    match job {
-        Job::Save {
-            shape,
-            stop,
-            run,
-            mode,
-            input,
-            relay,
-            ..
-        } => {
-            is_one_page(shape)
-                && *stop == 0
-                && *run == 0
-                && matches!(mode, Mode::Sliced)
-                && input.bytes().is_empty()
-                && *relay == 0
-        }
+        Job::Assemble | Job::CheckFile | Job::Workload { .. } => true,
+        Job::Restore { lazy, .. } => !*lazy,
+        Job::Save { mode, .. } => *mode == Mode::Sliced,
         _ => false,
     }
-}
-
-fn is_one_page(shape: &Shape) -> bool
-    ensures { result ≡ is_one_page shape.now }
-{
-    shape.vcpus() == 1 && shape.blocks() == 1 && shape.pages() == 1
 }

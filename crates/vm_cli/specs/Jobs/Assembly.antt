@@ -9,8 +9,8 @@ use Rattle.image_file.specs.Image.{raw_of}
 use Rattle.image_file.specs.declared.image_refusal.ImageRefusal.{ImageRefusal}
 use Rattle.medium.specs.Count.{counted}
 use Rattle.medium.specs.States.{FileState, SourceState}
-use Rattle.vm_cli.specs.Jobs.Common.{IsDurable, IsFilledWith, IsReadWhole, Prints, print_step, read_image_step, write_output_step}
-use Rattle.vm_cli.specs.Outside.{Outside}
+use Rattle.vm_cli.specs.Jobs.Common.{IsDurable, IsFilledWith, IsReadWhole, Printing, print_step, read_image_step, write_output_step}
+use Rattle.vm_cli.specs.Outside.{End, Outside}
 use Rattle.vm_cli.specs.Parts.{assembled_line}
 use Rattle.vm_cli.specs.Steps.{Step}
 use Rattle.vm_cli.specs.declared.answer.Fault.{Fault}
@@ -50,7 +50,7 @@ pub record WritesAssembly (bytes : List ℕ) (image image_after : SourceState) (
   pub synced : output_after.syncs ≡ counted output.syncs
   pub durable : IsDurable output_after
 
-pub record Assembles (old new : Outside) (fault : Option Fault) : Type 0 where
+pub record Assembles (prints : Printing) (old new : Outside) (end : End) : Type 0 where
   pub bytes : List ℕ
   pub wrote : WritesAssembly bytes old.image new.image old.output new.output
-  pub printed : Prints fault (assembled_line (length bytes)) old.console new.console
+  pub printed : prints end.fault (assembled_line (length bytes)) old.console new.console

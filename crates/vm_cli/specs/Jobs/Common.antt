@@ -5,7 +5,7 @@ use Rattle.medium.specs.Count.{HasRisen}
 use Rattle.medium.specs.Crash.{Only}
 use Rattle.medium.specs.States.{FileState, SinkState, SourceState}
 use Rattle.vm_cli.specs.FaultLine.{fault_line}
-use Rattle.vm_cli.specs.Parts.{AddsFronts}
+use Rattle.vm_cli.specs.Parts.{AddsBehind, AddsFronts}
 use Rattle.vm_cli.specs.Steps.{Step, Image, Output, Console}
 use Rattle.vm_cli.specs.declared.answer.Fault.{Fault}
 use Rattle.vm_cli.specs.declared.answer.Fault.TheVariants as faults
@@ -53,8 +53,12 @@ IsDurable file = IfSome file.told (λ bytes. Only bytes file.may_leave)
 
 -- ---- What was printed
 
+-- how the text of a job that ended so stands on the console
+abbrev pub Printing : Type 1
+Printing = Option Fault → List ℕ → SinkState → SinkState → Type 0
+
 -- the text of a job that ended well; a front of it, and then of the fault's line, where a call on the console failed
-abbrev pub Prints : Option Fault → List ℕ → SinkState → SinkState → Type 0
+abbrev pub Prints : Printing
 Prints None text old new = new.taken ≡ option_map (λ before. before ++ text) old.taken
 Prints (Some fault) text old new = BecomesTold (AddsFronts text (fault_line fault)) old.taken new.taken
 
@@ -64,7 +68,34 @@ PrintsLine fault old new =
     (new.taken ≡ option_map (λ before. before ++ fault_line fault) old.taken)
     ⊎ (BecomesTold (AddsFront (fault_line fault)) old.taken new.taken × HasRisen old.faults new.faults)
 
--- the text of a job that ended well, or a front of it where the job ended with a fault, before its line
-abbrev pub Takes : Option Fault → List ℕ → Option (List ℕ) → Option (List ℕ) → Type 0
-Takes None text old new = new ≡ option_map (λ before. before ++ text) old
-Takes (Some fault) text old new = BecomesTold (AddsFront text) old new
+-- the same before the fault's line
+abbrev pub Takes : Printing
+Takes None text old new = new.taken ≡ option_map (λ before. before ++ text) old.taken
+Takes (Some fault) text old new = BecomesTold (AddsFront text) old.taken new.taken
+
+-- ---- What was printed before a fault
+
+-- how the text of a job that ended with this fault behind it stands on the console
+abbrev pub FaultPrinting : Type 1
+FaultPrinting = Fault → List ℕ → SinkState → SinkState → Type 0
+
+-- before the fault's line: the text, or a front of it where a call on the console failed
+abbrev pub TakesReport : FaultPrinting
+TakesReport fault text old new =
+    (new.taken ≡ option_map (λ before. before ++ text) old.taken)
+    ⊎ (BecomesTold (AddsFront text) old.taken new.taken × HasRisen old.faults new.faults)
+
+-- and with the line: both, or fronts of them where a call on the console failed
+abbrev pub PrintsReport : FaultPrinting
+PrintsReport fault text old new =
+    (new.taken ≡ option_map (λ before. before ++ (text ++ fault_line fault)) old.taken)
+    ⊎ (BecomesTold (AddsFronts text (fault_line fault)) old.taken new.taken × HasRisen old.faults new.faults)
+
+-- the same of a text that was written whole
+abbrev pub TakesWhole : FaultPrinting
+TakesWhole fault text old new = new.taken ≡ option_map (λ before. before ++ text) old.taken
+
+abbrev pub PrintsBehind : FaultPrinting
+PrintsBehind fault text old new =
+    (new.taken ≡ option_map (λ before. before ++ (text ++ fault_line fault)) old.taken)
+    ⊎ (BecomesTold (AddsBehind text (fault_line fault)) old.taken new.taken × HasRisen old.faults new.faults)

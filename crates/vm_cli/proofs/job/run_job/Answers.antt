@@ -1,18 +1,150 @@
--- A line that is served leaves the cause to the steps of its job; where it isn't, nothing was read.
-use Rattle.std.proofs.Common.{Some, ap, ◌∙◌}
-use Rattle.vm_cli.specs.declared.words.Served.TheVariants.{FirstSave as first_save, Assembly as assembly}
-use Rattle.vm_cli.proofs.Jobs.{reads_nothing, served_cause}
+-- A line that is served leaves cause and work to its job; where it isn't, nothing was done.
+use Rattle.std.proofs.Common.{◌≡◌, inl, ap, refl, subst, ◌∙◌, true}
+use Rattle.std.specs.Prelude.{is_some}
+use Rattle.flat_machine.specs.Order.{OrderData}
+use Rattle.medium.specs.Members.{file_state}
+use Rattle.medium.proofs.Leaves.{leaves_same}
+use Rattle.vm_cli.specs.Outside.{faults_of, outside}
+use Rattle.vm_cli.specs.Served.{Assembly, CheckFile, Restore, Save, Workload}
+use Rattle.vm_cli.specs.Words.{served_of}
+use Rattle.vm_cli.proofs.Jobs.{before_console, failed_with, full_stays, line_cause, line_works, looked_at, reads_nothing, save_failed, served_cause, served_restore, served_save, served_works, undone_fault, unwritten_crash}
 use Rattle.vm_cli.proofs.job.run_job.Goals as goal
 
-pub returns-in-FirstSave-clause-cause : goal.returns-in-FirstSave-clause-cause
-returns-in-FirstSave-clause-cause g c input_old input_new =
-    served_cause _ _ _ _ first_save _ _ _ c.in_ok-serve_line.ensures.served (c.in_ok-serve_line.ensures.ok ∙ ap Some c.in-FirstSave.is)
-    (c.save_image.ensures.cause (record { image = 0; input = input_old; output = 0; console = g.K.Sink.faults c.args.console.now }) (record { image = 0; input = input_new; output = 0; console = g.K.Sink.faults c.args.console.now }))
+pub returns-in-Save-clause-cause : goal.returns-in-Save-clause-cause
+returns-in-Save-clause-cause g c =
+    served_cause _ _ _ _ _ _ _ c.in_ok-job.ensures.no_fault (c.in_ok-job.ensures.ok ∙ ap served_of c.in-Save.is ∙ served_save _ _ _ _ _ _ _ (subst (λ j. is_some (served_of j) ≡ true) c.in-Save.is c.in_ok-job.ensures.served))
+    (c.save_image.ensures.cause (faults_of (outside g.S.Source g.M.Readable g.K.Sink c.args.image.now c.args.input.now c.args.output.now c.args.console.now))
+    (faults_of (outside g.S.Source g.M.Readable g.K.Sink c.save_image.new.image c.args.input.now c.save_image.new.output c.save_image.new.console)))
 
-pub returns-in-Assembly-clause-cause : goal.returns-in-Assembly-clause-cause
-returns-in-Assembly-clause-cause g c input_old input_new =
-    served_cause _ _ _ _ assembly _ _ _ c.in_ok-serve_line.ensures.served (c.in_ok-serve_line.ensures.ok ∙ ap Some c.in-Assembly.is)
-    (c.assemble_image.ensures.cause input_old input_new)
+pub returns-in-Save-clause-works : goal.returns-in-Save-clause-works
+returns-in-Save-clause-works g c =
+    let e = c.save_image.ensures in
+    served_works _ _ _ _ _ _ (c.in_ok-job.ensures.ok ∙ ap served_of c.in-Save.is ∙ served_save _ _ _ _ _ _ _ (subst (λ j. is_some (served_of j) ≡ true) c.in-Save.is c.in_ok-job.ensures.served))
+    (record {
+      done = λ done. let saved = e.done done in record { image = saved.0; taken = saved.1; saved = saved.2; printed = saved.3 };
+      failed = λ fault is other. save_failed _ _ _ _ _ _ _ fault _ (e.failed fault is other);
+      orders = record { first = λ none. absurd none; second = λ none. absurd none };
+      kept = record {
+        others = refl;
+        input = λ _. refl;
+        image = λ words. absurd (e.words_stand words);
+        read = e.read;
+        output = λ words. absurd (e.words_stand words);
+        not_empty = e.not_empty;
+        full = e.kept;
+      };
+      crash = λ words. absurd (e.words_stand words);
+      count = e.count;
+    })
 
-pub returns-in_err-serve_line-clause-read : goal.returns-in_err-serve_line-clause-read
-returns-in_err-serve_line-clause-read g c = reads_nothing _ _
+pub returns-in-Assemble-clause-cause : goal.returns-in-Assemble-clause-cause
+returns-in-Assemble-clause-cause g c =
+    served_cause _ _ _ _ Assembly _ _ c.in_ok-job.ensures.no_fault (c.in_ok-job.ensures.ok ∙ ap served_of c.in-Assemble.is)
+    (c.assemble_image.ensures.cause (faults_of (outside g.S.Source g.M.Readable g.K.Sink c.args.image.now c.args.input.now c.args.output.now c.args.console.now))
+    (faults_of (outside g.S.Source g.M.Readable g.K.Sink c.assemble_image.new.image c.args.input.now c.assemble_image.new.output c.assemble_image.new.console)))
+
+pub returns-in-Assemble-clause-works : goal.returns-in-Assemble-clause-works
+returns-in-Assemble-clause-works g c =
+    let e = c.assemble_image.ensures in
+    served_works _ Assembly _ _ _ _ (c.in_ok-job.ensures.ok ∙ ap served_of c.in-Assemble.is)
+    (record {
+      done = λ done. let made = e.done done in record { bytes = made.0; wrote = made.1; printed = made.2 };
+      failed = λ fault is other. inl (c.requires.first, e.silent (before_console _ fault is other));
+      orders = record { first = λ _. c.requires.first; second = λ _. c.requires.second };
+      kept = record { others = refl; input = λ _. refl; image = λ words. absurd (e.words_stand words); read = e.read; output = e.untouched; not_empty = e.not_empty; full = e.kept };
+      crash = unwritten_crash g.M.Readable _ _ _ (g.met.M.Readable.only_now _) e.untouched e.not_empty;
+      count = e.count;
+    })
+
+pub returns-in-CheckFile-clause-cause : goal.returns-in-CheckFile-clause-cause
+returns-in-CheckFile-clause-cause g c =
+    served_cause _ _ _ _ CheckFile _ _ c.in_ok-job.ensures.no_fault (c.in_ok-job.ensures.ok ∙ ap served_of c.in-CheckFile.is)
+    (c.check_input.ensures.cause (faults_of (outside g.S.Source g.M.Readable g.K.Sink c.args.image.now c.args.input.now c.args.output.now c.args.console.now))
+    (faults_of (outside g.S.Source g.M.Readable g.K.Sink c.args.image.now c.check_input.new.input c.args.output.now c.check_input.new.console)))
+
+pub returns-in-CheckFile-clause-works : goal.returns-in-CheckFile-clause-works
+returns-in-CheckFile-clause-works g c =
+    let e = c.check_input.ensures in
+    served_works _ CheckFile _ _ _ _ (c.in_ok-job.ensures.ok ∙ ap served_of c.in-CheckFile.is)
+    (record {
+      done = λ done. let found = e.done done in record { machine = found.0; loaded = found.1; printed = found.2 };
+      failed = λ fault is other. inl (c.requires.first, e.silent (before_console _ fault is other));
+      orders = record { first = λ _. c.requires.first; second = λ _. c.requires.second };
+      kept = record {
+        others = record { input = e.leaves; image = refl; output = refl };
+        input = λ words. absurd (e.words_stand words);
+        image = λ _. refl;
+        read = reads_nothing _ _;
+        output = λ _. refl;
+        not_empty = λ _. leaves_same _;
+        full = full_stays _;
+      };
+      crash = λ _. looked_at (file_state g.M.Readable c.args.output.now) _ (g.met.M.Readable.only_now _) (leaves_same _);
+      count = e.count;
+    })
+
+pub returns-in-Restore-clause-cause : goal.returns-in-Restore-clause-cause
+returns-in-Restore-clause-cause g c =
+    served_cause _ _ _ _ (Restore c.in-Restore.run') _ _ c.in_ok-job.ensures.no_fault (c.in_ok-job.ensures.ok ∙ ap served_of c.in-Restore.is ∙ served_restore _ _ (subst (λ j. is_some (served_of j) ≡ true) c.in-Restore.is c.in_ok-job.ensures.served))
+    (c.restore_input.ensures.cause (faults_of (outside g.S.Source g.M.Readable g.K.Sink c.args.image.now c.args.input.now c.args.output.now c.args.console.now))
+    (faults_of (outside g.S.Source g.M.Readable g.K.Sink c.args.image.now c.restore_input.new.input c.args.output.now c.restore_input.new.console)))
+
+pub returns-in-Restore-clause-works : goal.returns-in-Restore-clause-works
+returns-in-Restore-clause-works g c =
+    let e = c.restore_input.ensures in
+    served_works _ (Restore c.in-Restore.run') _ _ _ _ (c.in_ok-job.ensures.ok ∙ ap served_of c.in-Restore.is ∙ served_restore _ _ (subst (λ j. is_some (served_of j) ≡ true) c.in-Restore.is c.in_ok-job.ensures.served))
+    (record {
+      done = λ done. let ran = e.done done in record { after = ran.0; phase = ran.1; printed = ran.2 };
+      failed = λ fault is other. inl (ap (λ (o : OrderData). o.members) (e.no_phase (λ done. undone_fault _ fault is other done)) ∙ c.requires.first, e.silent (before_console _ fault is other));
+      orders = record { first = λ none. absurd none; second = λ _. c.requires.second };
+      kept = record {
+        others = record { input = e.leaves; image = refl; output = refl };
+        input = λ words. absurd (e.words_stand words);
+        image = λ _. refl;
+        read = reads_nothing _ _;
+        output = λ _. refl;
+        not_empty = λ _. leaves_same _;
+        full = full_stays _;
+      };
+      crash = λ _. looked_at (file_state g.M.Readable c.args.output.now) _ (g.met.M.Readable.only_now _) (leaves_same _);
+      count = e.count;
+    })
+
+pub returns-in-Workload-clause-cause : goal.returns-in-Workload-clause-cause
+returns-in-Workload-clause-cause g c =
+    served_cause _ _ _ _ (Workload c.in-Workload.seed) _ _ c.in_ok-job.ensures.no_fault (c.in_ok-job.ensures.ok ∙ ap served_of c.in-Workload.is)
+    (c.save_workload.ensures.cause (faults_of (outside g.S.Source g.M.Readable g.K.Sink c.args.image.now c.args.input.now c.args.output.now c.args.console.now))
+    (faults_of (outside g.S.Source g.M.Readable g.K.Sink c.args.image.now c.args.input.now c.save_workload.new.output c.save_workload.new.console)))
+
+pub returns-in-Workload-clause-works : goal.returns-in-Workload-clause-works
+returns-in-Workload-clause-works g c =
+    let e = c.save_workload.ensures in
+    served_works _ _ _ _ _ _ (c.in_ok-job.ensures.ok ∙ ap served_of c.in-Workload.is)
+    (record {
+      done = λ done. let saved = e.done done in record { saved = saved.0; checked = saved.1; shape = saved.2; printed = saved.3 };
+      failed = e.failed;
+      orders = record { first = λ none. absurd none; second = λ none. absurd none };
+      kept = record {
+        others = record { image = refl; input = refl };
+        input = λ _. refl;
+        image = λ _. refl;
+        read = reads_nothing _ _;
+        output = λ words. absurd (e.words_stand words);
+        not_empty = e.not_empty;
+        full = e.kept;
+      };
+      crash = λ words. absurd (e.words_stand words);
+      count = e.count;
+    })
+
+pub returns-in_err-job-clause-cause : goal.returns-in_err-job-clause-cause
+returns-in_err-job-clause-cause g c =
+    line_cause (faults_of (outside g.S.Source g.M.Readable g.K.Sink c.args.image.now c.args.input.now c.args.output.now c.args.console.now))
+    (faults_of (outside g.S.Source g.M.Readable g.K.Sink c.args.image.now c.args.input.now c.args.output.now c.args.console.now)) _ _
+    (outside g.S.Source g.M.Readable g.K.Sink c.args.image.now c.args.input.now c.args.output.now c.args.console.now) _ _ (failed_with _ _ c.from_residual.ensures)
+    c.in_err-job.ensures.fault
+
+pub returns-in_err-job-clause-works : goal.returns-in_err-job-clause-works
+returns-in_err-job-clause-works g c =
+    line_works _ _ _ (outside g.S.Source g.M.Readable g.K.Sink c.args.image.now c.args.input.now c.args.output.now c.args.console.now) _ _ _ _ _
+    (g.met.M.Readable.only_now _) (failed_with _ _ c.from_residual.ensures) c.in_err-job.ensures.fault c.requires.first c.requires.second refl refl refl refl
