@@ -1,11 +1,10 @@
-use crate::jobs::{
-    Outcome, failing, failing_from, file, image, serve, serve_in_threads, serve_on, well,
-};
+use crate::jobs::{empty_output, image, serve, serve_in_threads, serve_on};
 use guest_asm::AsmKind;
 use image_file::ImageRefusal;
 use medium::{FailPlan, MemMedium, MemSink, MemSource};
 use std::alloc::Global;
 use std::test::Fail;
+use test_lines::{Outcome, failing, failing_from, full_file, well};
 use vm_cli::Fault;
 
 /// The line of an assembly.
@@ -46,13 +45,13 @@ fn a_text_is_assembled_to_its_bytes(rt: HostRuntime) -> Result<(), Fail> {
         (LOOP, LOOP_WORDS.as_slice(), "assembled 28 bytes\n"),
         (".zero 100", [0; 100].as_slice(), "assembled 100 bytes\n"),
     ] {
-        let output = file(alloc, &[], well(alloc))?;
+        let output = empty_output(alloc, well(alloc))?;
         let done = serve(alloc, &ASM, image(alloc, text.as_bytes())?, output)?;
         assert_eq!(rt; done.end(), (0, None, printed));
         assert_eq!(rt; done.answer.first.count(), 0);
         assert_eq!(rt; done.answer.second.count(), 0);
-        assert_eq!(rt; done.output.bytes(), bytes);
-        assert_eq!(rt; done.output.unsynced(), 0);
+        assert_eq!(rt; done.files.output.bytes(), bytes);
+        assert_eq!(rt; done.files.output.unsynced(), 0);
     }
     Ok(())
 }
@@ -63,8 +62,8 @@ fn the_call_with_threads_assembles_to_the_same_bytes(rt: HostRuntime) -> Result<
     let text = image(alloc, LOOP.as_bytes())?;
     let done = serve_in_threads(&rt, alloc, &ASM, text)?;
     assert_eq!(rt; done.end(), (0, None, "assembled 28 bytes\n"));
-    assert_eq!(rt; done.output.bytes(), LOOP_WORDS.as_slice());
-    assert_eq!(rt; done.output.unsynced(), 0);
+    assert_eq!(rt; done.files.output.bytes(), LOOP_WORDS.as_slice());
+    assert_eq!(rt; done.files.output.unsynced(), 0);
     Ok(())
 }
 
@@ -75,7 +74,7 @@ fn an_empty_text_is_synced_without_a_write(rt: HostRuntime) -> Result<(), Fail> 
     let output = MemMedium::new(alloc, Vec::new(alloc), 16, 0, well(alloc))?;
     let done = serve(alloc, &ASM, image(alloc, b"")?, output)?;
     assert_eq!(rt; done.end(), (0, None, "assembled 0 bytes\n"));
-    assert_eq!(rt; done.output.bytes(), [].as_slice());
+    assert_eq!(rt; done.files.output.bytes(), [].as_slice());
     Ok(())
 }
 
@@ -97,11 +96,11 @@ static WRONG_TEXTS: [(&str, u32, AsmKind, &str); 9] = [
 fn the_first_wrong_line_is_named_before_the_output(rt: HostRuntime) -> Result<(), Fail> {
     let alloc = rt.alloc();
     for &(text, line, kind, printed) in &WRONG_TEXTS {
-        let output = file(alloc, &[], failing_from(alloc, 1))?;
+        let output = empty_output(alloc, failing_from(alloc, 1))?;
         let done = serve(alloc, &ASM, image(alloc, text.as_bytes())?, output)?;
         let fault = Fault::AsmRefused { line, kind };
         assert_eq!(rt; done.end(), (9, Some(fault), printed));
-        assert_eq!(rt; done.output.bytes(), [].as_slice());
+        assert_eq!(rt; done.files.output.bytes(), [].as_slice());
     }
     Ok(())
 }
@@ -112,11 +111,11 @@ fn a_text_may_have_1_048_576_bytes(rt: HostRuntime) -> Result<(), Fail> {
     for byte in [b' ', b'\n'] {
         let long = vec![in alloc; byte; 1_048_577]?;
         let whole = long.get(..1_048_576).unwrap_or(&[]);
-        let output = file(alloc, &[], well(alloc))?;
+        let output = empty_output(alloc, well(alloc))?;
         let done = serve(alloc, &ASM, image(alloc, whole)?, output)?;
         assert_eq!(rt; done.end(), (0, None, "assembled 0 bytes\n"));
 
-        let output = file(alloc, &[], failing_from(alloc, 1))?;
+        let output = empty_output(alloc, failing_from(alloc, 1))?;
         let done = serve(alloc, &ASM, image(alloc, &long)?, output)?;
         let fault = Fault::ImageRefused(ImageRefusal::TooLong(1_048_577));
         let line = "fault 2 image too-long 1048577\n";
@@ -132,11 +131,11 @@ fn each_call_on_the_output_may_fail(rt: HostRuntime) -> Result<(), Fail> {
     // The calls are: len, write, sync; without the write where there is no byte.
     for (text, last) in [(ECALL, 3u64), ("", 2)] {
         for call in 1..=last {
-            let output = file(alloc, &[], failing(alloc, call)?)?;
+            let output = empty_output(alloc, failing(alloc, call)?)?;
             let done = serve(alloc, &ASM, image(alloc, text.as_bytes())?, output)?;
             assert_eq!(rt; done.end(), failed, "call {call} of {text}");
         }
-        let output = file(alloc, &[], failing_from(alloc, last.saturating_add(1)))?;
+        let output = empty_output(alloc, failing_from(alloc, last.saturating_add(1)))?;
         let done = serve(alloc, &ASM, image(alloc, text.as_bytes())?, output)?;
         assert_eq!(rt; done.answer.status, 0);
     }
@@ -149,7 +148,7 @@ fn each_read_of_the_text_may_fail(rt: HostRuntime) -> Result<(), Fail> {
     let failed = (6, Some(Fault::ImageFault), "fault 6 image-fault\n");
     for call in 1..=2 {
         let text = MemSource::new(ECALL.as_bytes().to_vec(alloc)?, failing(alloc, call)?);
-        let output = file(alloc, &[], failing_from(alloc, 1))?;
+        let output = empty_output(alloc, failing_from(alloc, 1))?;
         let done = serve(alloc, &ASM, text, output)?;
         assert_eq!(rt; done.end(), failed, "read {call}");
     }
@@ -159,18 +158,18 @@ fn each_read_of_the_text_may_fail(rt: HostRuntime) -> Result<(), Fail> {
 #[test]
 fn an_output_that_has_a_byte_stays_as_it_is(rt: HostRuntime) -> Result<(), Fail> {
     let alloc = rt.alloc();
-    let output = file(alloc, &[9], well(alloc))?;
+    let output = full_file(alloc, &[9], well(alloc))?;
     let done = serve(alloc, &ASM, image(alloc, ECALL.as_bytes())?, output)?;
     let fault = Fault::NotEmpty { len: 1 };
     assert_eq!(rt; done.end(), (8, Some(fault), "fault 8 not-empty 1\n"));
-    assert_eq!(rt; done.output.bytes(), [9].as_slice());
+    assert_eq!(rt; done.files.output.bytes(), [9].as_slice());
     Ok(())
 }
 
 /// The assembly of a text over an empty file, and over a console that has so much room and whose calls fail by the
 /// plan.
 fn serve_console(alloc: Global, text: &str, room: u64, plan: FailPlan) -> Result<Outcome, Fail> {
-    let output = file(alloc, &[], well(alloc))?;
+    let output = empty_output(alloc, well(alloc))?;
     let console = MemSink::new(alloc, room, plan)?;
     serve_on(alloc, &ASM, image(alloc, text.as_bytes())?, output, console)
 }
@@ -194,8 +193,8 @@ fn has_all_but_the_number(done: &Outcome) -> bool {
     done.answer.status == 5
         && done.answer.fault == Some(Fault::ConsoleFault)
         && is_cut(done.printed(), "assembled 4 bytes\n", CONSOLE_FAULT)
-        && done.output.bytes() == ECALL_WORD.as_slice()
-        && done.output.unsynced() == 0
+        && done.files.output.bytes() == ECALL_WORD.as_slice()
+        && done.files.output.unsynced() == 0
 }
 
 const CONSOLE_FAULT: &str = "fault 5 console-fault\n";

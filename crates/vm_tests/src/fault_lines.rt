@@ -1,15 +1,16 @@
 use crate::guest::{GUEST, SAVE, elf_of_the_guest};
-use crate::jobs::{failing_from, file, image, serve, serve_in_threads};
+use crate::jobs::{empty_output, image, serve, serve_in_threads};
 use image_file::ElfKind;
 use image_file::ImageRefusal::Elf;
 use medium::MemSource;
 use std::test::Fail;
+use test_lines::failing_from;
 use vm_cli::Fault;
 use vm_words::UsageKind;
 
 /// A line that isn't served, its fault, and what is printed.
 #[rattlefmt::skip]
-static OTHER_LINES: [(&[&str], Fault, &str); 15] = [
+static OTHER_LINES: [(&[&str], Fault, &str); 13] = [
     (&[], Fault::Usage { index: 0, kind: UsageKind::NoCommand }, "fault 1 usage 0 no-command\n"),
     (&["stave", "image=a", "out=b"], Fault::Usage { index: 0, kind: UsageKind::Command }, "fault 1 usage 0 command\n"),
     (&["asm", "image=a", "out"], Fault::Usage { index: 2, kind: UsageKind::NoEquals }, "fault 1 usage 2 no-equals\n"),
@@ -24,14 +25,12 @@ static OTHER_LINES: [(&[&str], Fault, &str); 15] = [
         Fault::Usage { index: 10, kind: UsageKind::Key },
         "fault 1 usage 10 key\n",
     ),
-    (&["save", "image=a", "out=b", "pages=2"], Fault::NotYet, "fault 1 not-yet\n"),
     (
         &["save", "image=a", "out=b", "pages=1", "mode=threads"],
         Fault::Usage { index: 4, kind: UsageKind::NeedsThreads },
         "fault 1 usage 4 needs-threads\n",
     ),
-    (&["check", "in=a"], Fault::NotYet, "fault 1 not-yet\n"),
-    (&["workload", "out=a"], Fault::NotYet, "fault 1 not-yet\n"),
+    (&["restore", "in=a", "mode=lazy"], Fault::NotYet, "fault 1 not-yet\n"),
     (
         &["record", "image=a", "out=b"],
         Fault::Usage { index: 0, kind: UsageKind::NeedsThreads },
@@ -44,7 +43,7 @@ fn every_other_line_is_answered_before_the_image(rt: HostRuntime) -> Result<(), 
     let alloc = rt.alloc();
     for &(line, fault, printed) in &OTHER_LINES {
         let guest = MemSource::new(GUEST.to_vec(alloc)?, failing_from(alloc, 1));
-        let output = file(alloc, &[], failing_from(alloc, 1))?;
+        let output = empty_output(alloc, failing_from(alloc, 1))?;
         let done = serve(alloc, line, guest, output)?;
         assert_eq!(rt; done.end(), (1, Some(fault), printed));
     }
@@ -87,13 +86,13 @@ fn what_is_wrong_with_an_elf_file_is_printed_with_its_place(rt: HostRuntime) -> 
         if let Some(changed) = elf.get_mut(byte) {
             *changed = value;
         }
-        let output = file(alloc, &[], failing_from(alloc, 1))?;
+        let output = empty_output(alloc, failing_from(alloc, 1))?;
         let done = serve(alloc, &SAVE, image(alloc, &elf)?, output)?;
         let fault = Fault::ImageRefused(Elf { kind, at });
         assert_eq!(rt; done.end(), (2, Some(fault), printed));
     }
 
-    let output = file(alloc, &[], failing_from(alloc, 1))?;
+    let output = empty_output(alloc, failing_from(alloc, 1))?;
     let short = right.get(..63).unwrap_or(&[]);
     let done = serve(alloc, &SAVE, image(alloc, short)?, output)?;
     let kind = ElfKind::Short;

@@ -1,69 +1,24 @@
-ghost use Rattle.std.specs.Prelude.{◌≤◌, length};
-
 use medium::{FailPlan, MemMedium, MemSink, MemSource};
-use ram_block::{Gate, NoMemory};
+use ram_block::Gate;
 use std::alloc::{AllocError, Global};
 use std::process::Abort;
 use std::sync::Wait;
 use std::test::Fail;
 use std::thread::Threads;
-use vm_cli::{Answer, Fault, rvsnap, rvsnap_still};
+use test_lines::{Files, Outcome, console, empty_file, full_file, well, words};
+use vm_cli::rvsnap;
 
-/// No call fails.
-pub(crate) fn well(alloc: Global) -> FailPlan {
-    FailPlan {
-        calls: Vec::new(alloc),
-        from: None,
-    }
-}
-
-/// The call with this number fails.
-pub(crate) fn failing(alloc: Global, call: u64) -> Result<FailPlan, AllocError> {
-    Ok(FailPlan {
-        calls: vec![in alloc; call]?,
-        from: None,
-    })
-}
-
-/// Each call from this number on fails.
-pub(crate) fn failing_from(alloc: Global, call: u64) -> FailPlan {
-    FailPlan {
-        calls: Vec::new(alloc),
-        from: Some(call),
-    }
-}
+/// How many bytes an output has room for.
+const ROOM: u64 = 2_000_000;
 
 /// An image of these bytes.
 pub(crate) fn image(alloc: Global, bytes: &[u8]) -> Result<MemSource, AllocError> {
-    Ok(MemSource::new(bytes.to_vec(alloc)?, well(alloc)))
+    test_lines::image(alloc, bytes, well(alloc))
 }
 
-/// A file of these bytes, whose calls fail by the plan.
-pub(crate) fn file(alloc: Global, bytes: &[u8], plan: FailPlan) -> Result<MemMedium, NoMemory>
-    requires { length bytes.now ≤ 4096 }
-{
-    MemMedium::new(alloc, bytes.to_vec(alloc)?, 2_000_000, 16, plan)
-}
-
-/// How a job ended: the exit status, the fault if any, and what was printed.
-pub(crate) type End<'a> = (u8, Option<Fault>, &'a str);
-
-/// A job's answer, the file that it was to write, and the console.
-#[derive(Drop)]
-pub(crate) struct Outcome {
-    pub(crate) answer: Answer,
-    pub(crate) output: MemMedium,
-    pub(crate) console: MemSink,
-}
-
-impl Outcome {
-    pub(crate) fn printed(&self) -> &str {
-        str::from_utf8(self.console.bytes()).unwrap_or("no text")
-    }
-
-    pub(crate) fn end(&self) -> End<'_> {
-        (self.answer.status, self.answer.fault, self.printed())
-    }
+/// An empty output, whose calls fail by the plan.
+pub(crate) fn empty_output(alloc: Global, plan: FailPlan) -> Result<MemMedium, Fail> {
+    Ok(empty_file(alloc, ROOM, plan)?)
 }
 
 /// The answer to a line over files in memory.
@@ -73,7 +28,7 @@ pub(crate) fn serve(
     image: MemSource,
     output: MemMedium,
 ) -> Result<Outcome, Fail> {
-    let console = MemSink::new(alloc, 1024, well(alloc))?;
+    let console = console(alloc, well(alloc))?;
     serve_on(alloc, line, image, output, console)
 }
 
@@ -85,24 +40,13 @@ pub(crate) fn serve_on(
     output: MemMedium,
     console: MemSink,
 ) -> Result<Outcome, Fail> {
-    let words = words(alloc, line)?;
-    let mut image = image;
-    let mut input = file(alloc, &[], well(alloc))?;
-    let mut output = output;
-    let mut console = console;
-    let answer = rvsnap_still(
-        alloc,
-        &words,
-        &mut image,
-        &mut input,
-        &mut output,
-        &mut console,
-    );
-    Ok(Outcome {
-        answer,
+    let files = Files {
+        image,
+        input: full_file(alloc, &[], well(alloc))?,
         output,
         console,
-    })
+    };
+    Ok(test_lines::serve(alloc, line, files)?)
 }
 
 /// A gate that nobody may call.
@@ -129,31 +73,17 @@ pub(crate) fn serve_in_threads<R: Abort + Threads + Wait + Sync>(
     image: MemSource,
 ) -> Result<Outcome, Fail> {
     let words = words(alloc, line)?;
-    let mut image = image;
-    let mut input = file(alloc, &[], well(alloc))?;
-    let mut output = file(alloc, &[], well(alloc))?;
-    let mut console = MemSink::new(alloc, 1024, well(alloc))?;
+    let mut files = Files::with_room(alloc, ROOM)?;
+    files.image = image;
     let answer = rvsnap(
         rt,
         alloc,
         &words,
-        &mut image,
-        &mut input,
-        &mut output,
-        &mut console,
+        &mut files.image,
+        &mut files.input,
+        &mut files.output,
+        &mut files.console,
         &ClosedGate { rt },
     );
-    Ok(Outcome {
-        answer,
-        output,
-        console,
-    })
-}
-
-fn words(alloc: Global, line: &[&str]) -> Result<Vec<String>, AllocError> {
-    let mut words = Vec::new(alloc);
-    for word in line {
-        words.push(String::from_str(alloc, word)?)?;
-    }
-    Ok(words)
+    Ok(Outcome { answer, files })
 }

@@ -8,8 +8,8 @@ mod calls;
 #[cfg(test)]
 mod fault_lines;
 #[cfg(test)]
-mod first_save;
-#[cfg(test)]
 mod guest;
+#[cfg(test)]
+mod images;
 #[cfg(test)]
 mod jobs;
