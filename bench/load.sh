@@ -49,15 +49,6 @@ make_file() {
     put $((at + 359)) "04$(be 4 5)0574696d6572$(be 4 0)$(be 4 1)$(be 8 0)$(be 8 0)7e$(be 4 5)00"
 }
 
-# milliseconds COMMAND...: how long it takes.
-milliseconds() {
-    local from to
-    from=$(date +%s%N)
-    "$@" > "$work/printed"
-    to=$(date +%s%N)
-    echo $(((to - from) / 1000000))
-}
-
 # median COMMAND...: the middle of several turns.
 median() {
     local turn

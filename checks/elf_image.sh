@@ -33,21 +33,7 @@ __attribute__((section(".text.start"))) void _start(void) {
 }
 C
 
-cat > "$work/guest.ld" <<'LD'
-ENTRY(_start)
-PHDRS {
-    code PT_LOAD FLAGS(5);
-    data PT_LOAD FLAGS(6);
-}
-SECTIONS {
-    . = 0x80000000;
-    .text : { *(.text.start) *(.text .text.*) } :code
-    .rodata : { *(.rodata .rodata.* .srodata .srodata.*) } :code
-    .data : { *(.data .data.* .sdata .sdata.*) } :data
-    .bss : { *(.bss .bss.* .sbss .sbss.*) } :data
-    /DISCARD/ : { *(.comment) *(.note*) *(.eh_frame*) *(.riscv.attributes) }
-}
-LD
+put_linker_script "$work/guest.ld"
 
 flags=(-march=rv64i -mabi=lp64 -mcmodel=medany -mno-relax -O1 -ffreestanding -fno-pic -nostdlib -static)
 
@@ -75,14 +61,14 @@ accept() {
     rm -f "$work/guest.elf" "$work/guest.bin" "$work/guest.snap"
     "$2"
     local status=0
-    "$rvsnap" save image="$work/guest.elf" out="$work/guest.snap" vcpus=1 blocks=1 pages=1 stop=0 run=0 || status=$?
+    "$rvsnap" save image="$work/guest.elf" out="$work/guest.snap" vcpus=1 blocks=1 pages=1 stop=0 run=0 > "$work/printed" || status=$?
     if [ "$status" -ne 0 ]; then
         fail "rvsnap ended with status $status on the file that $1 built"
     fi
     local len
     len=$(wc -c < "$work/guest.bin")
     { cat "$work/guest.bin"; head -c $((page - len)) /dev/zero; } > "$work/wanted"
-    tail -c +$((pages_at + 1)) "$work/guest.snap" | head -c "$page" > "$work/ram"
+    dd if="$work/guest.snap" of="$work/ram" bs="$page" iflag=skip_bytes skip="$pages_at" count=1 status=none
     if ! cmp "$work/wanted" "$work/ram"; then
         fail "the first page of RAM isn't the program that $1 built"
     fi

@@ -129,7 +129,13 @@ limited_and_told() (
 size_limit() {
     local status=0
     printf '\x00' > "$work/start"
-    expect 4 "$file_fault" limited_and_told
+    expect 4 'save failed blocked 0 faults 0 sweep 0
+clock 0
+cpu 0 running pc 0000000080000000 steps 0
+serial 0 lost 0
+timer 0000000000000000
+ram pages 1 nonzero 1 sum 0010007300000073
+'"$file_fault" limited_and_told
     holds "$work/limited" "$work/start"
     rm "$work/limited"
     (limited) > "$work/printed" 2> "$work/errors" || status=$?

@@ -44,9 +44,22 @@ put "$by_hand" 1052990 '\x04\x00\x00\x00\x04\x06serial\x00\x00\x00\x00\x00\x00\x
 put "$by_hand" 1053026 '\x7e\x00\x00\x00\x04\x04\x00\x00\x00\x05\x05timer\x00\x00\x00\x00\x00\x00\x00\x01'
 put "$by_hand" 1053066 '\x7e\x00\x00\x00\x05'
 snapshot=$work/guest.snap
-expect 0 '' save image="$guest" out="$snapshot" pages=1
+expect 0 'save complete blocked 0 faults 0 sweep 1
+clock 0
+cpu 0 running pc 0000000080000000 steps 0
+serial 0 lost 0
+timer 0000000000000000
+ram pages 1 nonzero 1 sum 0000007300100293
+' save image="$guest" out="$snapshot" pages=1
 cmp "$snapshot" "$by_hand" || fail "the file of a save isn't the one written by hand"
 say "the $(wc -c < "$snapshot") bytes of a saved file are those written by hand"
+
+# The largest machine: its file has its length, and its devices stand behind the last page.
+printf '\x73\x00\x10\x00' > "$work/ebreak"
+"$rvsnap" save image="$work/ebreak" out="$work/largest" vcpus=8 blocks=8 pages=2048 stop=1 > "$work/printed" || fail "status $? from the largest save"
+head -n 3 "$work/printed" | cmp -s - <(printf '%s\n' 'save complete blocked 0 faults 0 sweep 16384' 'clock 8' 'cpu 0 ebreak pc 0000000080000000 steps 0') || fail "printed '$(cat "$work/printed")' by the largest save"
+[ "$(wc -c < "$work/largest")" -eq 75499881 ] || fail "the largest file has $(wc -c < "$work/largest") bytes"
+cmp -s -i 75497503:0 -n 10 "$work/largest" <(printf '\x04\x00\x00\x00\x03\x03cpu\x00') || fail "the devices of the largest file stand elsewhere"
 
 # A file with bytes is refused, and neither cut nor written.
 expect 8 $'fault 8 not-empty 1053072\n' save image="$guest" out="$snapshot" pages=1

@@ -58,3 +58,22 @@ llvm_bytes() {
 words_of() {
     od -An -v -w4 -tx4 --endian=little "$1" | sed 's/^ */0x/'
 }
+
+# put_linker_script FILE: how a toolchain links a guest: code from the start of RAM on, and its data behind it.
+put_linker_script() {
+    cat > "$1" <<'LD'
+ENTRY(_start)
+PHDRS {
+    code PT_LOAD FLAGS(5);
+    data PT_LOAD FLAGS(6);
+}
+SECTIONS {
+    . = 0x80000000;
+    .text : { *(.text.start) *(.text .text.*) } :code
+    .rodata : { *(.rodata .rodata.* .srodata .srodata.*) } :code
+    .data : { *(.data .data.* .sdata .sdata.*) } :data
+    .bss : { *(.bss .bss.* .sbss .sbss.*) } :data
+    /DISCARD/ : { *(.comment) *(.note*) *(.eh_frame*) *(.riscv.attributes) }
+}
+LD
+}

@@ -61,3 +61,12 @@ build_or_skip() {
 build_rvsnap_or_skip() {
     build_or_skip rvsnap crates/*/src
 }
+
+# milliseconds COMMAND...: how long it takes; what it prints stands in $work/printed.
+milliseconds() {
+    local from to
+    from=$(date +%s%N)
+    "$@" > "$work/printed"
+    to=$(date +%s%N)
+    echo $(((to - from) / 1000000))
+}

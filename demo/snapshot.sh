@@ -1,7 +1,8 @@
 #!/usr/bin/env bash
-# Builds rvsnap where it is missing, assembles a small guest, and saves its freshly booted machine to a snapshot file.
-# Usage: demo/first.sh [FILE], where FILE is the snapshot file to be written.
-set -u
+# Builds rvsnap where it is missing, assembles a small guest for two vCPUs, saves the machine in the middle of its run while it
+# runs on, checks the file, and runs the machine of the file on to the same end.
+# Usage: demo/snapshot.sh [FILE], where FILE is the snapshot file to be written.
+set -u -o pipefail
 cd "$(dirname "$0")/.." || exit 1
 
 program=$PWD/crates/rvsnap/out/rvsnap
@@ -33,7 +34,7 @@ fi
 
 if [ ! -x "$program" ]; then
     command -v rt >/dev/null 2>&1 || fail "the command rt isn't on the PATH: install the kit that README.md names"
-    echo "Building rvsnap. Only proved code is built: the first build proves all it needs, in about ten minutes."
+    echo "Building rvsnap. Only proved code is built: the first build proves all it needs, in many minutes."
     # The program ends with status 1 here, since it is given no words: what counts is that it was built.
     (cd crates/rvsnap && rt run) >"$log" 2>&1
     [ -x "$program" ] || fail "the build failed: see $log"
@@ -52,7 +53,20 @@ printf 'ecall\naddi x1, x2\n' >"$work/wrong.s"
 cat "$work/wrong.s"
 (cd "$work" && run 9 asm image=wrong.s out=wrong.img) || exit 1
 
-echo "The machine that boots with the guest, saved:"
-run 0 save image="$image" out="$snapshot" vcpus=1 blocks=1 pages=1 stop=0 run=0
+echo "The machine of two vCPUs runs 100 instructions on each, and is saved while it runs on:"
+run 0 save image="$image" out="$snapshot" vcpus=2 pages=4 stop=100 run=1000 turns=0101010101010101ssss | tee "$work/saved"
 echo "$snapshot has $(wc -c <"$snapshot") bytes. It begins with its magic, version and sections:"
 od -A d -t x1z -N 96 "$snapshot"
+
+echo "The file is read back and checked; and a file that is cut is refused, with status 3:"
+run 0 check in="$snapshot"
+head -c 1000000 "$snapshot" >"$work/cut.snap"
+(cd "$work" && run 3 check in=cut.snap) || exit 1
+
+echo "The machine of the file, as it was at the instant; and run on until it halts:"
+run 0 restore in="$snapshot"
+run 0 restore in="$snapshot" run=1000 | tee "$work/restored"
+
+# The first line of the one is that of the command, and the second that of the save.
+cmp -s <(tail -n +3 "$work/saved") <(tail -n +2 "$work/restored") || fail "the machine of the file ran to another end"
+echo "The machine that ran on while it was saved ended as the one of the file."
