@@ -29,7 +29,7 @@ use Rattle.bus_rule.specs.Views.{Entry, number_of, Task, Book, Role, Spent, Work
 
 -- a pass that knows of nothing and holds nothing
 abbrev pub idle_pass : Role → PassData
-idle_pass role = record { role = role; held = []; busy = 0; found = None }
+idle_pass role = record { role = role; held = []; busy = 0; found = None; under = None }
 
 abbrev pub spent_pass : PassData
 spent_pass = idle_pass Spent
@@ -55,9 +55,14 @@ first_pass i n protect = idle_pass (Saving (first_book i n protect))
 abbrev pub with_cell : PassData → ℕ → Cell → PassData
 with_cell p c x = record p { held = (c, x) ∷ p.held }
 
+-- the cell taken last, where it is a protected page
+abbrev pub protected_top : List (ℕ × Cell) → Option ℕ
+protected_top ((page, cells.Page bytes Protected) ∷ below) = Some page
+protected_top _ = None
+
 -- cell c was found held
 abbrev pub with_found : PassData → ℕ → PassData
-with_found p c = record p { busy = counted p.busy; found = Some c }
+with_found p c = record p { busy = counted p.busy; found = Some c; under = protected_top p.held }
 
 -- the cell taken last was given back
 abbrev pub without_cell : PassData → PassData

@@ -45,13 +45,14 @@ pub data Role : Type 0 where
   Working : Task → Role
   Saving : Book → Role
 
--- the cells that it holds, each with its value due, the one taken last first; how often it found a cell held, and which
--- one it so found last
+-- the cells that it holds, each with its value due, the one taken last first; how often it found a cell held, which one it
+-- so found last, and the protected page that it had taken last as it did
 pub record PassData : Type 0 where
   pub role : Role
   pub held : List (ℕ × Cell)
   pub busy : ℕ
   pub found : Option ℕ
+  pub under : Option ℕ
 
 -- the number that a pass writes into the words of the cells that it takes
 abbrev pub number_of : Role → ℕ

@@ -1,5 +1,5 @@
 -- What a vCPU's turn on the bus leaves of its pass (this project's own, docs/ARCHITECTURE.md).
-use Rattle.std.specs.Prelude.{◌≡◌, ◌⊎◌, ◌↔◌, ℕ, true, false, [], Option, Some, None}
+use Rattle.std.specs.Prelude.{◌≡◌, ◌↔◌, ℕ, true, false, [], Option, Some, None}
 use Rattle.ram_block.specs.Shape.{total_pages_of}
 use Rattle.rv64i_step.specs.Request.{written_page}
 use Rattle.flat_machine.specs.Cell.{CellName}
@@ -42,16 +42,16 @@ pub record IsStopped (old : PassData) (page : ℕ) (new : PassData) : Type 0 whe
   pub writes : written_page (request_in (task_of old)) ≡ Some page
   pub waits : new ≡ with_task old (with_stop (task_of old) page)
 
--- the cell of the next event, or the queue where that event writes to a page
-abbrev pub IsNeeded : Task → ℕ → Type 0
-IsNeeded t c =
-    ((cell : CellName) × (cell_of (request_in t) ≡ Some cell) × (c ≡ cell_number (pages_of_task t) cell))
-    ⊎ ((page : ℕ) × (written_page (request_in t) ≡ Some page) × (c ≡ queue_number (pages_of_task t)))
+-- the cell of the next event; or the queue, by a pass that had taken a protected page, to which that event writes
+abbrev pub IsNeeded : Task → ℕ → Option ℕ → Type 0
+IsNeeded t c None = (cell : CellName) × (cell_of (request_in t) ≡ Some cell) × (c ≡ cell_number (pages_of_task t) cell)
+IsNeeded t c (Some page) = (written_page (request_in t) ≡ Some page) × (c ≡ queue_number (pages_of_task t))
 
--- a cell that the vCPU needs was found held
+-- a cell that the vCPU needs was found held, with this protected page taken before, or none
 pub record FindsHeld (old : PassData) (c : ℕ) (new : PassData) : Type 0 where
-  pub needed : IsNeeded (task_of old) c
-  pub found : new ≡ with_found old c
+  pub page : Option ℕ
+  pub needed : IsNeeded (task_of old) c page
+  pub found : new ≡ record (with_found old c) { under = page }
 
 -- what the turn makes of the pass, by its answer
 abbrev pub TurnsTo : PassData → StepAnswer → PassData → Type 0
