@@ -9,6 +9,8 @@ mod crashes;
 #[cfg(test)]
 mod held_once;
 #[cfg(test)]
+mod releases;
+#[cfg(test)]
 mod save;
 #[cfg(test)]
 mod turns;

@@ -18,7 +18,11 @@ use vm_stop::Stopped;
 const WHOLE_OF_TWO_PAGES: u64 = 1_057_168;
 
 /// The save of a stopped machine, which has just begun.
-fn begun<M: Medium>(alloc: Global, stopped: &Stopped, file: &mut M) -> Result<Saver, Fail>
+pub(crate) fn begun<M: Medium>(
+    alloc: Global,
+    stopped: &Stopped,
+    file: &mut M,
+) -> Result<Saver, Fail>
     ensures { IfOk result (λ d. HasJustBegun d stopped.now (file_state M.Readable file.new)) }
 {
     match Saver::begin(alloc, stopped, file) {
@@ -29,7 +33,12 @@ fn begun<M: Medium>(alloc: Global, stopped: &Stopped, file: &mut M) -> Result<Sa
 
 /// A plant with no page writable is that of a save which has just begun.
 #[tactic(auto, using(crate::proofs::Begun::begun_of_save))]
-fn is_of_save<P: Plant, M: Medium>(_saver: &Saver, _plant: &P, _stopped: &Machine, _file: &M)
+pub(crate) fn is_of_save<P: Plant, M: Medium>(
+    _saver: &Saver,
+    _plant: &P,
+    _stopped: &Machine,
+    _file: &M,
+)
     requires begun { HasJustBegun _saver.now _stopped.now (file_state M.Readable _file.now) }
     requires fits { P.fits _plant.now }
     requires total { P.total _plant.now ≡ total_pages_of _stopped.now.shape }
