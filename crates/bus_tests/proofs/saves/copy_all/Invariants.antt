@@ -1,0 +1,6 @@
+use Rattle.std.specs.Prelude.{◌≡◌, ◌≤◌}
+use Rattle.page_bus.specs.Passes.{saver_key}
+use Rattle.bus_tests.proofs.saves.copy_all.Given as goal
+
+abbrev pub invariant-loop : goal.invariant-loop
+invariant-loop l = record { key : saver_key l.saver ≡ saver_key l.fn.saver; table : l.saver.table ≡ l.bus.table; most : l.copied ≤ l.counter }
