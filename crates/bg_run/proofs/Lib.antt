@@ -1,0 +1,5 @@
+pub mod Turns
+pub mod Files
+pub mod Steps
+pub mod Saves
+pub mod Ends

@@ -1,0 +1,9 @@
+//! Tests of a phase on threads, over machines and files made by hand.
+#![tactic(auto)]
+
+#[cfg(test)]
+mod meeting;
+#[cfg(test)]
+mod phase;
+#[cfg(test)]
+mod phases;
