@@ -58,8 +58,9 @@ impl Held {
     ghost use Rattle.lazy_restore.specs.Answers.{FailsToOpen, IsHeldOf, LeavesFinish, LeavesReach, LeavesStep, LeavesTouch, Opens};
     ghost use Rattle.lazy_restore.specs.Lazy.{IsLazy, new_page, page_of_cell};
 
-    /// Reads all of a file but its pages.
-    pub(crate) fn open<M: Medium>(alloc: Global, medium: &mut M) -> Result<Held, LoadFault>
+    /// Reads all of a file but its pages. All memory is taken here, and the file is only lent: it goes into a `Lazy`
+    /// beside what is held.
+    pub fn open<M: Medium>(alloc: Global, medium: &mut M) -> Result<Held, LoadFault>
         ensures opens { IfOk result (λ held. Opens (M.Readable.told medium.old) held) }
         ensures refused { IfErr result (λ fault. FailsToOpen (file_state M.Readable medium.old) fault (file_state M.Readable medium.new)) }
         ensures leaves { Leaves (file_state M.Readable medium.old) (file_state M.Readable medium.new) }

@@ -16,6 +16,7 @@ mod vcpus;
 pub use ok_line::put_ok;
 pub use report::put_report;
 pub use save_line::SaveLine;
+pub use serial::put_rows;
 
 #[cfg(test)]
 mod tests;

@@ -33,8 +33,9 @@ fn serial_line(serial: &Serial) -> Text
     text
 }
 
-// Writes the rows of the bytes, of which the last may be shorter.
-fn put_rows<K: Sink>(bytes: &[u8], sink: &mut K) -> Result<(), Failed>
+/// Writes bytes in hexadecimal digits, in rows of 32 bytes, of which the last may be shorter. It takes no memory. After
+/// Failed a front of the rows was taken, where the sink tells that.
+pub fn put_rows<K: Sink>(bytes: &[u8], sink: &mut K) -> Result<(), Failed>
     ensures all { OnOk result (K.taken sink.new ≡ option_map (λ before. before ++ row_lines bytes.now) (K.taken sink.old)) }
     ensures some { OnErr result (BecomesTold (AddsFront (row_lines bytes.now)) (K.taken sink.old) (K.taken sink.new)) }
     ensures cause { HasCause (K.faults sink.old) (K.faults sink.new) result }
