@@ -1,8 +1,9 @@
 #!/usr/bin/env bash
 # Times the load of a snapshot of 64 MiB: bench/load.sh. The file has 8 blocks of 2,048 pages, all of them saved, and one
 # vCPU. Prints the time of a load, of reading the same file into memory in one piece, and of reading it by pieces that are
-# thrown away, each the median of several turns over a file that the system has in memory. The program is proved and
-# built first where it is not there or is older than a source of its own.
+# thrown away, and then of a restore of that file with run=1000, eager and with mode=lazy, each the median of several turns over
+# a file that the system has in memory. The programs are proved and built first where they are not there or are older than
+# a source of their own.
 set -euo pipefail
 cd "$(dirname "$0")/.."
 
@@ -63,4 +64,10 @@ load=$(median "$program" "$file")
 [ "$(cat "$work/printed")" = "16384 pages" ] || fail "printed '$(cat "$work/printed")', not '16384 pages'"
 read=$(median dd if="$file" of=/dev/null bs=128M count=1 status=none)
 passed=$(median dd if="$file" of=/dev/null bs=64K status=none)
+build_rvsnap_or_skip
+eager=$(median "$rvsnap" restore in="$file" run=1000)
+cp "$work/printed" "$work/eager"
+lazy=$(median "$rvsnap" restore in="$file" run=1000 mode=lazy)
+tail -n +2 "$work/printed" | cmp -s - "$work/eager" || fail "a lazy restore prints another report than an eager one"
 say "a load of $(wc -c < "$file") bytes takes $load ms, reading them into memory $read ms ($((load * 100 / read)) to 100), reading and dropping them $passed ms"
+say "a restore of it with run=1000 takes $eager ms, with mode=lazy $lazy ms"

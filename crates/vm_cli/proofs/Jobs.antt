@@ -1,6 +1,6 @@
--- From the work of a job to the end of its line.
-use Rattle.std.proofs.Common.{◌≡◌, ◌⊎◌, inl, inr, ℕ, ◌≤◌, ◌<◌, List, [], ◌++◌, length, take, Option, Some, None, Result, Ok, Err, refl, sym, ap, subst, ◌∙◌, arith, append_assoc}
-use Rattle.std.specs.Prelude.{Bool, true, false, is_some, IsErr, IsErrAnd}
+-- The work of a job by the job of its line, and of a line that isn't served.
+use Rattle.std.proofs.Common.{◌≡◌, ◌⊎◌, inl, inr, ℕ, ◌<◌, List, [], length, Option, Some, None, Result, Ok, Err, refl, sym, ap, subst, arith}
+use Rattle.std.specs.Prelude.{true, is_some, IsErr, IsErrAnd}
 use Rattle.vm_words.specs.Limits.{IsSave}
 use Rattle.vm_words.specs.declared.job.Job.TheVariants as jobs
 use Rattle.vm_words.specs.declared.job.Mode.{Mode}
@@ -8,31 +8,26 @@ use Rattle.vm_words.specs.declared.job.Mode.TheVariants.{Sliced, Threads}
 use Rattle.vm_words.specs.declared.turns.TurnOf.{TurnOf}
 use Rattle.image_file.specs.Image.{ReadsOn}
 use Rattle.image_file.proofs.Reading.{reads_none}
-use Rattle.medium.specs.Bytes.{AddsFront, BecomesTold}
 use Rattle.medium.specs.Members.{file_state}
-use Rattle.medium.specs.States.{FileState, Leaves, SinkState, SourceState}
+use Rattle.medium.specs.States.{FileState, Leaves, SourceState}
 use Rattle.medium.specs.declared.readable.Readable as readable
 use Rattle.medium.proofs.Leaves.{leaves_same}
 use Rattle.vm_cli.specs.Answer.{fault_in}
-use Rattle.vm_cli.specs.Ends.{Ends}
-use Rattle.vm_cli.specs.FaultLine.{fault_line}
 use Rattle.vm_cli.specs.Images.{IsCrashSafe}
-use Rattle.vm_cli.specs.Jobs.Common.{Prints, PrintsBehind, PrintsLine, PrintsReport, Takes, TakesReport, TakesWhole}
+use Rattle.vm_cli.specs.Jobs.Common.{TakesReport, TakesWhole}
 use Rattle.vm_cli.specs.Jobs.Save.{EndsEarly, IsBeforePhases, ReadsImage, ReportsFailed}
-use Rattle.vm_cli.specs.Outside.{End, Outside, Same, faults_of}
-use Rattle.vm_cli.specs.Parts.{AddsFronts}
-use Rattle.vm_cli.specs.Steps.{Console, Faults, HasCause, HasFailed, Image, Input, Object, Output}
+use Rattle.vm_cli.specs.Outside.{End, Outside, Same}
+use Rattle.vm_cli.specs.Steps.{Faults, HasCause}
 use Rattle.vm_cli.specs.Words.{IsFaultOfLine, line_fault, served_line, served_of}
-use Rattle.vm_cli.specs.Work.{Does, Fails, IsBeforeOutput, IsNotConsole, IsNotEmpty, IsUsage, IsWorkDone, Keeps, KeepsOthers, StopsEarly, Works, steps_behind, steps_of, words_step}
+use Rattle.vm_cli.specs.Work.{Fails, IsBeforeOutput, IsNotConsole, IsNotEmpty, IsWorkDone, KeepsOthers, StopsEarly, Works, steps_behind, steps_of, words_step}
 use Rattle.vm_cli.specs.Write.{IsBeforeConsole, KeepsFull}
 use Rattle.vm_cli.specs.declared.answer.Fault.{Fault}
 use Rattle.vm_cli.specs.declared.answer.Fault.TheVariants as faults
 use Rattle.vm_cli.specs.declared.words.Caller.{Caller}
 use Rattle.flat_machine.specs.Machine.{boot}
 use Rattle.ram_block.specs.Shape.{ShapeData}
-use Rattle.vm_cli.specs.Served.{Assembly, CheckFile, Restore, Save, Served, SlicedPhases, Workload}
-use Rattle.vm_cli.proofs.Causes.{always, cause_later, ends_as_called_for, passed}
-use Rattle.vm_cli.proofs.Lines.{LineBehind, fronts, printed_behind, reported_later}
+use Rattle.vm_cli.specs.Served.{Assembly, CheckFile, LazyRestore, Peek, Restore, Save, Served, SlicedPhases, Workload}
+use Rattle.vm_cli.proofs.Causes.{always, passed}
 
 -- ---- Nothing was done
 
@@ -102,6 +97,8 @@ stops_at_line (Some (Save shape input phases)) it same end early first second ou
 stops_at_line (Some Assembly) it same end early first second output = first
 stops_at_line (Some CheckFile) it same end early first second output = first
 stops_at_line (Some (Restore n)) it same end early first second output = first
+stops_at_line (Some (LazyRestore n)) it same end early first second output = inl first
+stops_at_line (Some (Peek shape at len)) it same end early first second output = first
 stops_at_line (Some (Workload seed)) it same end early first second output = inl (early, record { first = first; second = second; output = output })
 
 others_stay : (served : Option Served) (it : Outside) (same : Same) → same.image → same.input → same.output → KeepsOthers served it it same
@@ -110,6 +107,8 @@ others_stay (Some (Save shape serial phases)) it same image input output = input
 others_stay (Some Assembly) it same image input output = input
 others_stay (Some CheckFile) it same image input output = record { input = leaves_same it.input; image = image; output = output }
 others_stay (Some (Restore n)) it same image input output = record { input = leaves_same it.input; image = image; output = output }
+others_stay (Some (LazyRestore n)) it same image input output = record { input = leaves_same it.input; image = image; output = output }
+others_stay (Some (Peek shape at len)) it same image input output = record { input = leaves_same it.input; image = image; output = output }
 others_stay (Some (Workload seed)) it same image input output = record { image = image; input = input }
 
 -- the work of a line that isn't served: none
@@ -157,7 +156,7 @@ undone_fault None fault is other done = cc is
 undone_fault (Some faults.ConsoleFault) fault is other done = let same : faults.ConsoleFault ≡ fault = cc is in subst IsNotConsole (sym same) other
 undone_fault (Some _) fault is other done = done
 
--- ---- A save, and a restore
+-- ---- A save
 
 -- a save that is served has turns of its own
 pub served_save : (shape : ShapeData) (stop run : ℕ) (mode : Mode) (turns : List TurnOf) (serial : List ℕ) (relay : ℕ) → is_some (served_of (jobs.Save shape stop run mode turns serial relay)) ≡ true
@@ -171,11 +170,6 @@ pub save_limits : (shape : ShapeData) (stop run : ℕ) (mode : Mode) (turns : Li
 save_limits shape stop run Sliced turns serial relay is limits = subst (λ n. IsSave shape stop run Sliced turns serial n) (limits.relay_unused refl) limits
 save_limits shape stop run Threads turns serial relay is limits = cc is
 
--- a restore that is served reads the whole file
-pub served_restore : (n : ℕ) (lazy : Bool) → is_some (served_of (jobs.Restore n lazy)) ≡ true → served_of (jobs.Restore n lazy) ≡ Some (Restore n)
-served_restore n false is = refl
-served_restore n true is = cc is
-
 -- how it ended, told of the outside
 pub save_failed : (shape : ShapeData) (serial : List ℕ) (phases : SlicedPhases) (old new : Outside) (same_output silent : Type 0) (fault : Fault) (end : End)
     → (EndsEarly shape serial phases old.image new.image same_output old.output new.output end × silent)
@@ -184,148 +178,8 @@ pub save_failed : (shape : ShapeData) (serial : List ℕ) (phases : SlicedPhases
 save_failed shape serial phases old new same_output silent fault end (inl early) = inl early
 save_failed shape serial phases old new same_output silent fault end (inr failed) = inr (record { image = failed.0; taken = failed.1; reported = failed.2 })
 
--- ---- The line of a fault
-
--- a count of the console that rose goes on having risen
-later : (old : Faults) (image input output mid new : ℕ) → mid ≤ new → (object : Object) → HasFailed old (record { image = image; input = input; output = output; console = mid }) object
-    → HasFailed old (record { image = image; input = input; output = output; console = new }) object
-later old image input output mid new le Image failed = failed
-later old image input output mid new le Input failed = failed
-later old image input output mid new le Output failed = failed
-later old image input output mid new le Console failed = omega (arith, failed, le)
-
 -- an end with a fault that isn't the console's comes before its first call
 pub before_console : (end : Option Fault) (fault : Fault) → end ≡ Some fault → IsNotConsole fault → IsBeforeConsole end
 before_console None fault is other = cc is
 before_console (Some faults.ConsoleFault) fault is other = absurd (let same : faults.ConsoleFault ≡ fault = cc is in subst IsNotConsole (sym same) other)
 before_console (Some _) fault is other = tt
-
--- ---- What was done
-
--- the text of a job that ended well is all that was printed
-done_well : (served : Option Served) (old new : Outside) (first second : List ℕ) → Does Takes served old new (record { fault = None; first = first; second = second })
-    → Does Prints served old new (record { fault = None; first = first; second = second })
-done_well None old new first second did = absurd did
-done_well (Some (Save shape input phases)) old new first second did = record { image = did.image; taken = did.taken; saved = did.saved; printed = did.printed }
-done_well (Some Assembly) old new first second did = record { bytes = did.bytes; wrote = did.wrote; printed = did.printed }
-done_well (Some CheckFile) old new first second did = record { machine = did.machine; loaded = did.loaded; printed = did.printed }
-done_well (Some (Restore n)) old new first second did = record { after = did.after; phase = did.phase; printed = did.printed }
-done_well (Some (Workload seed)) old new first second did = record { saved = did.saved; checked = did.checked; shape = did.shape; printed = did.printed }
-
--- the outside at the end of a job's work, before the line of its fault
-abbrev pub before_line : Outside → SinkState → Outside
-before_line it console = record { image = it.image; input = it.input; output = it.output; console = console }
-
-abbrev pub same_before : Same → Type 0 → Same
-same_before same console = record { image = same.image; input = same.input; output = same.output; console = console }
-
--- a front of the line of the fault stands behind a front of the text
-done_badly : (served : Option Served) (old new : Outside) (mid : SinkState) (fault : Fault) (first second : List ℕ) → BecomesTold (AddsFront (fault_line fault)) mid.taken new.console.taken
-    → Does Takes served old (before_line new mid) (record { fault = Some fault; first = first; second = second })
-    → Does Prints served old new (record { fault = Some fault; first = first; second = second })
-done_badly None old new mid fault first second line did = absurd did
-done_badly (Some (Save shape input phases)) old new mid fault first second line did =
-    record { image = did.image; taken = did.taken; saved = did.saved; printed = fronts _ _ _ _ _ did.printed line }
-done_badly (Some Assembly) old new mid fault first second line did = record { bytes = did.bytes; wrote = did.wrote; printed = fronts _ _ _ _ _ did.printed line }
-done_badly (Some CheckFile) old new mid fault first second line did = record { machine = did.machine; loaded = did.loaded; printed = fronts _ _ _ _ _ did.printed line }
-done_badly (Some (Restore n)) old new mid fault first second line did = record { after = did.after; phase = did.phase; printed = fronts _ _ _ _ _ did.printed line }
-done_badly (Some (Workload seed)) old new mid fault first second line did =
-    record { saved = did.saved; checked = did.checked; shape = did.shape; printed = fronts _ _ _ _ _ did.printed line }
-
-early_later : (served : Option Served) (old new : Outside) (mid : SinkState) (same : Same) (silent : Type 0) (end : End) → StopsEarly served old (before_line new mid) (same_before same silent) end
-    → StopsEarly served old new same end
-early_later None old new mid same silent end early = early
-early_later (Some (Save shape input phases)) old new mid same silent end early = early
-early_later (Some Assembly) old new mid same silent end early = early
-early_later (Some CheckFile) old new mid same silent end early = early
-early_later (Some (Restore n)) old new mid same silent end early = early
-early_later (Some (Workload seed)) old new mid same silent end early = early
-
--- the line of a fault behind a report
-failed_later : (served : Option Served) (old new : Outside) (mid : SinkState) (fault : Fault) (end : End) → LineBehind fault old.console mid new.console
-    → Fails TakesReport TakesWhole served fault old (before_line new mid) end → end.fault ≡ Some fault → Fails PrintsReport PrintsBehind served fault old new end
-failed_later None old new mid fault end line failed is = absurd failed
-failed_later (Some (Save shape input phases)) old new mid fault end line failed is =
-    record { image = failed.image; taken = failed.taken; reported = reported_later _ _ _ _ _ _ _ fault end line failed.reported is }
-failed_later (Some Assembly) old new mid fault end line failed is = absurd failed
-failed_later (Some CheckFile) old new mid fault end line failed is = absurd failed
-failed_later (Some (Restore n)) old new mid fault end line failed is = absurd failed
-failed_later (Some (Workload seed)) old new mid fault end line (inl failed) is = inl (reported_later _ _ _ _ _ _ _ fault end line failed is)
-failed_later (Some (Workload seed)) old new mid fault end line (inr failed) is =
-    inr (record { of_load = failed.of_load; saved = failed.saved; printed = printed_behind fault _ _ _ _ line failed.printed })
-
-others_later : (served : Option Served) (old new : Outside) (mid : SinkState) (same : Same) (silent : Type 0) → KeepsOthers served old (before_line new mid) (same_before same silent)
-    → KeepsOthers served old new same
-others_later None old new mid same silent others = others
-others_later (Some (Save shape input phases)) old new mid same silent others = others
-others_later (Some Assembly) old new mid same silent others = others
-others_later (Some CheckFile) old new mid same silent others = record { input = others.input; image = others.image; output = others.output }
-others_later (Some (Restore n)) old new mid same silent others = record { input = others.input; image = others.image; output = others.output }
-others_later (Some (Workload seed)) old new mid same silent others = record { image = others.image; input = others.input }
-
-kept_later : (served : Option Served) (old new : Outside) (mid : SinkState) (same : Same) (silent : Type 0) (fault : Option Fault)
-    → Keeps served old (before_line new mid) (same_before same silent) fault → Keeps served old new same fault
-kept_later served old new mid same silent fault kept = record {
-  others = others_later served old new mid same silent kept.others;
-  input = kept.input;
-  image = kept.image;
-  read = kept.read;
-  output = kept.output;
-  not_empty = kept.not_empty;
-  full = kept.full;
-}
-
--- ---- The end of a line
-
--- an end by its parts
-pub end_by : (caller : Caller) (words : List (List ℕ)) (old new : Outside) (same : Same) (f g : Option Fault) (a b x y : List ℕ) → g ≡ f → b ≡ a → y ≡ x
-    → Ends caller words old new same (record { fault = f; first = a; second = x }) → Ends caller words old new same (record { fault = g; first = b; second = y })
-end_by caller words old new same f g a b x y fault first second ends =
-    subst (λ (o : Option Fault). Ends caller words old new same (record { fault = o; first = b; second = y })) (sym fault)
-    (subst (λ (o : List ℕ). Ends caller words old new same (record { fault = f; first = o; second = y })) (sym first)
-    (subst (λ (o : List ℕ). Ends caller words old new same (record { fault = f; first = a; second = o })) (sym second) ends))
-
--- of a job that ended well
-pub ends_well : (caller : Caller) (words : List (List ℕ)) (old new : Outside) (same : Same) (first second : List ℕ) → HasCause (faults_of old) (faults_of new) (steps_of caller words old) None
-    → Works (served_line words) old new same (record { fault = None; first = first; second = second })
-    → Ends caller words old new same (record { fault = None; first = first; second = second })
-ends_well caller words old new same first second cause works = record {
-  cause = cause;
-  complete = ends_as_called_for (faults_of old) (faults_of new) (steps_of caller words old) None cause;
-  done = λ _. done_well (served_line words) old new first second (works.done tt);
-  failed = λ fault is other. cc is;
-  orders = works.orders;
-  kept = works.kept;
-  crash = works.crash;
-}
-
--- of a job that ended with a fault, whose line was printed behind what the console had taken
-pub ends_badly : (caller : Caller) (words : List (List ℕ)) (old new : Outside) (mid : SinkState) (same : Same) (silent : Type 0) (first second : List ℕ) (fault : Fault)
-    → mid.faults ≤ new.console.faults → HasCause (faults_of old) (faults_of (before_line new mid)) (steps_of caller words old) (Some fault)
-    → Works (served_line words) old (before_line new mid) (same_before same silent) (record { fault = Some fault; first = first; second = second })
-    → PrintsLine fault mid new.console → BecomesTold (AddsFront (fault_line fault)) mid.taken new.console.taken → (silent → mid ≡ old.console)
-    → Ends caller words old new same (record { fault = Some fault; first = first; second = second })
-ends_badly caller words old new mid same silent first second fault more cause works printed front stays =
-    let steps = steps_of caller words old in
-    let lasts : HasCause (faults_of old) (faults_of new) steps (Some fault) =
-    cause_later (faults_of old) (faults_of (before_line new mid)) (faults_of new) steps (Some fault)
-    (later (faults_of old) new.image.faults new.input.faults new.output.faults mid.faults new.console.faults more) cause in
-    let behind : LineBehind fault old.console mid new.console = record { more = more; started = works.count; line = printed } in
-    record {
-      cause = lasts;
-      complete = ends_as_called_for (faults_of old) (faults_of new) steps (Some fault) lasts;
-      done = λ done. done_badly (served_line words) old new mid fault first second front (works.done done);
-      failed = λ f is other.
-          (let it : f ≡ fault = cc is in
-          elim (works.failed f is other) [
-            | inl (early, silent) ↦
-                inl (
-                  early_later (served_line words) old new mid same _ _ early,
-                  subst (λ (m : SinkState). PrintsLine f m new.console) (stays silent) (subst (λ (x : Fault). PrintsLine x mid new.console) (sym it) printed),
-                )
-            | inr failed ↦ inr (failed_later (served_line words) old new mid f _ (subst (λ (x : Fault). LineBehind x old.console mid new.console) (sym it) behind) failed is)
-          ]);
-      orders = works.orders;
-      kept = kept_later (served_line words) old new mid same silent (Some fault) works.kept;
-      crash = works.crash;
-    }

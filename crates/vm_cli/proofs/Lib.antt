@@ -1,5 +1,9 @@
 pub mod Causes
 pub mod Lines
+pub mod LazyRuns
+pub mod LazyEnds
+pub mod Peeks
+pub mod PeekEnds
 pub mod Loads
 pub mod Boot
 pub mod Saves
@@ -7,6 +11,7 @@ pub mod SaveEnds
 pub mod SaveImages
 pub mod SavedLoads
 pub mod Jobs
+pub mod JobEnds
 pub mod Statuses
 pub mod Torn
 pub mod Fronts

@@ -2,7 +2,6 @@
 use Rattle.std.proofs.Common.{◌≡◌, inl, inr, ◌≤◌, ℕ, List, ◌++◌, take, Option, Some, None, option_map, sym, ap, subst, ◌∙◌, arith, append_assoc}
 use Rattle.medium.proofs.Taken.{whole_is_front, whole_then_whole}
 use Rattle.medium.specs.Bytes.{AddsFront, BecomesTold}
-use Rattle.medium.specs.Count.{HasRisen}
 use Rattle.medium.specs.States.{FileState, SinkState}
 use Rattle.flat_machine.specs.Machine.{MachineData}
 use Rattle.vm_cli.specs.FaultLine.{fault_line}

@@ -1,23 +1,18 @@
 -- How a save ends a job, from the calls that it is made of.
-use Rattle.std.proofs.Common.{◌≡◌, ◌⊎◌, inl, inr, ℕ, ◌+◌, ◌<◌, ◌≤◌, List, [], ◌∷◌, length, Option, Some, None, refl, sym, ◌∙◌, ap, subst, arith}
-use Rattle.std.specs.Prelude.{IfSome}
+use Rattle.std.proofs.Common.{◌≡◌, Option, Some, None, refl, sym, subst}
 use Rattle.bg_saver.specs.declared.save_end.SaveEnd.{SaveEnd}
 use Rattle.bg_saver.specs.declared.save_end.SaveEnd.TheVariants.{Complete, Failed}
 use Rattle.bg_saver.specs.declared.save_job.PhaseOut.{PhaseOut}
 use Rattle.flat_machine.specs.Machine.{MachineData}
-use Rattle.medium.specs.States.{FileState, Leaves, SinkState}
+use Rattle.medium.specs.States.{FileState, SinkState}
 use Rattle.sliced_run.specs.Phase.{IsPhaseOf}
-use Rattle.vm_cli.specs.Jobs.Common.{Takes, TakesReport, print_step, write_output_step}
-use Rattle.vm_cli.specs.Jobs.Save.{EndsAtInstant, EndsReported, FailsMachine, IsInstant, KeepsImages, LeavesAtInstant, LeavesMachine, LeavesSaved, ReportsFailed, SavesMachine, WritesInstant, report_of, save_machine_steps}
-use Rattle.vm_cli.specs.Outside.{End, end_of}
+use Rattle.vm_cli.specs.Jobs.Common.{Takes, TakesReport}
+use Rattle.vm_cli.specs.Jobs.Save.{EndsReported, IsInstant, KeepsImages, LeavesSaved, ReportsFailed, SavesMachine, report_of}
+use Rattle.vm_cli.specs.Outside.{End}
 use Rattle.vm_cli.specs.Served.{SlicedPhases}
-use Rattle.vm_cli.specs.Steps.{Faults, HasCause}
-use Rattle.vm_cli.specs.Work.{IsNotConsole, IsNotEmpty, IsUsage, IsWorkDone}
+use Rattle.vm_cli.specs.Work.{IsNotConsole, IsWorkDone}
 use Rattle.vm_cli.specs.declared.answer.Fault.{Fault}
 use Rattle.vm_cli.specs.declared.answer.Fault.TheVariants as faults
-use Rattle.vm_cli.specs.declared.orders.Orders.{Orders}
-use Rattle.vm_cli.specs.declared.write_fault.WriteFault.TheVariants as write_faults
-use Rattle.vm_cli.proofs.Causes.{passed, unwritten, written_passes}
 
 -- ---- A save that ran its second phase
 

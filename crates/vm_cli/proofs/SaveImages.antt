@@ -1,5 +1,5 @@
 -- A save that ended at its image, or went on with the machine that boots with it.
-use Rattle.std.proofs.Common.{◌≡◌, ◌⊎◌, inl, inr, ℕ, List, [], Option, Some, None, sym, subst}
+use Rattle.std.proofs.Common.{◌≡◌, ◌⊎◌, inl, inr, ℕ, List, Option, Some, sym, subst}
 use Rattle.bg_saver.specs.declared.save_end.SaveEnd.TheVariants.{Complete}
 use Rattle.flat_machine.specs.Machine.{MachineData, boot}
 use Rattle.medium.specs.States.{FileState, SinkState, SourceState}

@@ -1,18 +1,16 @@
 -- The load of a file that was saved.
-use Rattle.std.proofs.Common.{◌≡◌, ◌⊎◌, inl, inr, ℕ, ◌≤◌, true, false, List, [], ◌∷◌, ◌++◌, Option, Some, None, Result, Ok, Err, option_map, refl, sym, ap, subst, ◌∙◌, arith}
-use Rattle.std.specs.Prelude.{IfSome, IsSome}
+use Rattle.std.proofs.Common.{◌≡◌, ◌⊎◌, inl, inr, ℕ, ◌≤◌, List, [], ◌∷◌, ◌++◌, Option, Some, None, Ok, option_map, refl, sym, ap, subst, ◌∙◌, arith}
+use Rattle.std.specs.Prelude.{IfSome}
 use Rattle.bg_saver.specs.declared.save_end.SaveEnd.TheVariants.{Complete}
 use Rattle.file_plan.specs.Layout.{Lay, file_of}
 use Rattle.flat_machine.specs.Machine.{MachineData}
 use Rattle.loader.specs.Loaded.{loaded, refusal_in}
-use Rattle.medium.specs.Bytes.{AddsFront, BecomesTold}
-use Rattle.medium.specs.Count.{HasRisen}
 use Rattle.medium.specs.Crash.{Only}
 use Rattle.medium.specs.States.{FileState, Leaves, SinkState}
 use Rattle.medium.proofs.Taken.{front_alone, whole_then_front, whole_then_whole}
 use Rattle.ram_block.specs.Shape.{ShapeData}
 use Rattle.vm_cli.specs.Jobs.Common.{Takes, TakesReport, TakesWhole, print_step}
-use Rattle.vm_cli.specs.Jobs.Load.{IsLoadedOf, file_fault, load_and_print_steps, load_step}
+use Rattle.vm_cli.specs.Jobs.Load.{IsLoadedOf, file_fault, load_and_print_steps}
 use Rattle.vm_cli.specs.Jobs.Save.{IsInstant, KeepsImages, SavesMachine, report_of, save_machine_steps}
 use Rattle.vm_cli.specs.Jobs.Workload.{FailsToLoad, FailsWorkload, IsCheckedShape, IsOfLoad, load_saved_step, workload_machine, workload_phases, workload_shape, workload_steps}
 use Rattle.vm_cli.specs.Outside.{End, end_of}

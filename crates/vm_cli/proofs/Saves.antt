@@ -1,5 +1,5 @@
 -- What a save leaves of the output, and how it ends a job.
-use Rattle.std.proofs.Common.{◌≡◌, ◌⊎◌, inl, inr, ℕ, ◌+◌, ◌<◌, ◌≤◌, true, false, List, [], ◌∷◌, length, Option, Some, None, Result, Ok, Err, refl, sym, ◌∙◌, ap, subst, arith}
+use Rattle.std.proofs.Common.{◌≡◌, ◌⊎◌, inl, inr, ℕ, ◌<◌, ◌≤◌, true, false, List, [], length, Option, Some, None, Result, Ok, Err, refl, sym, ◌∙◌, ap, subst, arith}
 use Rattle.std.specs.Prelude.{IfErr, IfOk, IfSome, IsSome}
 use Rattle.bg_saver.specs.Begin.{Begins, IsFirstByte, LeavesBegin}
 use Rattle.bg_saver.specs.Saver.{SaverData}
@@ -20,7 +20,7 @@ use Rattle.medium.specs.States.{FileState, Leaves}
 use Rattle.medium.specs.declared.readable.Readable as readable
 use Rattle.sliced_run.specs.Phase.{AddsOnly, IsPhaseOf, LeavesFile}
 use Rattle.vm_cli.specs.Answer.{fault_of_save}
-use Rattle.vm_cli.specs.Images.{IsEmptyFile, IsOfInstant}
+use Rattle.vm_cli.specs.Images.{IsOfInstant}
 use Rattle.vm_cli.specs.Jobs.Save.{KeepsImages, LeavesAtInstant, LeavesSaved, WritesInstant}
 use Rattle.vm_cli.specs.Write.{KeepsFull}
 use Rattle.vm_cli.specs.declared.answer.Fault.{Fault}

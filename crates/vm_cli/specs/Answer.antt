@@ -8,6 +8,8 @@ use Rattle.image_file.specs.declared.image_fault.ImageFault.{ImageFault}
 use Rattle.image_file.specs.declared.image_fault.ImageFault.TheVariants as image_faults
 use Rattle.loader.specs.declared.refusal.LoadFault.{LoadFault}
 use Rattle.loader.specs.declared.refusal.LoadFault.TheVariants as load_faults
+use Rattle.page_peek.specs.declared.fault.PeekFault.{PeekFault}
+use Rattle.page_peek.specs.declared.fault.PeekFault.TheVariants as peek_faults
 use Rattle.vm_words.specs.declared.fault.WordsFault.{WordsFault}
 use Rattle.vm_words.specs.declared.fault.WordsFault.TheVariants as words_faults
 use Rattle.vm_cli.specs.declared.answer.Fault.{Fault}
@@ -27,6 +29,7 @@ fault_status faults.ImageFault = 6
 fault_status faults.NoMemory = 7
 fault_status (faults.NotEmpty len) = 8
 fault_status (faults.AsmRefused line kind) = 9
+fault_status (faults.PeekRefused refusal) = 10
 
 -- the exit status of a job
 abbrev pub status_of : Option Fault → ℕ
@@ -46,6 +49,11 @@ abbrev pub fault_of_load : LoadFault → Fault
 fault_of_load (load_faults.Refused refusal) = faults.FileRefused refusal
 fault_of_load load_faults.ReadFault = faults.FileFault
 fault_of_load load_faults.NoMemory = faults.NoMemory
+
+abbrev pub fault_of_peek : PeekFault → Fault
+fault_of_peek (peek_faults.Refused refusal) = faults.PeekRefused refusal
+fault_of_peek peek_faults.ReadFault = faults.FileFault
+fault_of_peek peek_faults.NoMemory = faults.NoMemory
 
 abbrev pub fault_of_text : AsmFault → Fault
 fault_of_text (asm_faults.Line line kind) = faults.AsmRefused line kind

@@ -10,6 +10,8 @@ use Rattle.mapped_ram_header.specs.declared.fault.HeaderFault.TheVariants.{Versi
 use Rattle.device_state.specs.declared.fault.DeviceFault.TheVariants.{Steps, State, SerialLength, InputLength, Clock}
 use Rattle.loader.specs.declared.refusal.Refusal.{Refusal}
 use Rattle.loader.specs.declared.refusal.Refusal.TheVariants as file
+use Rattle.page_peek.specs.declared.fault.PeekRefusal.{PeekRefusal}
+use Rattle.page_peek.specs.declared.fault.PeekRefusal.TheVariants as peek
 use Rattle.vm_words.specs.declared.fault.UsageKind.{UsageKind}
 use Rattle.vm_words.specs.declared.fault.UsageKind.TheVariants.{NoCommand, Command, NoEquals, Key, Twice, Value, Missing, NeedsThreads}
 use Rattle.vm_cli.specs.declared.answer.Fault.{Fault}
@@ -86,6 +88,11 @@ file_words (file.Device at (InputLength v)) = codes "fault 3 file device-input-l
 file_words (file.Device at (Clock v)) = codes "fault 3 file device-clock " ++ two_numbers at v
 file_words (file.Trailing at) = codes "fault 3 file trailing " ++ decimal at
 
+-- the words of the line of a file that isn't looked into
+abbrev pub peek_words : PeekRefusal → List ℕ
+peek_words (peek.Truncated at) = codes "fault 10 peek truncated " ++ decimal at
+peek_words (peek.Differs at found) = codes "fault 10 peek differs " ++ two_numbers at found
+
 -- the words of a fault's line
 abbrev pub fault_words : Fault → List ℕ
 fault_words (faults.Usage index kind) = codes "fault 1 usage " ++ number_then index (usage_text kind)
@@ -100,6 +107,7 @@ fault_words faults.ImageFault = codes "fault 6 image-fault"
 fault_words faults.NoMemory = codes "fault 7 no-memory"
 fault_words (faults.NotEmpty len) = codes "fault 8 not-empty " ++ decimal len
 fault_words (faults.AsmRefused line kind) = codes "fault 9 assembly " ++ number_then line (asm_text kind)
+fault_words (faults.PeekRefused refusal) = peek_words refusal
 
 -- the line
 unfoldable pub fault_line : Fault → List ℕ

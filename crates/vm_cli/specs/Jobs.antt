@@ -1,7 +1,9 @@
 pub mod Assembly
 pub mod CheckFile
 pub mod Common
+pub mod LazyRestore
 pub mod Load
+pub mod Peek
 pub mod Restore
 pub mod Save
 pub mod Workload

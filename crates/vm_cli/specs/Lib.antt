@@ -8,5 +8,6 @@ pub mod Answer
 pub mod Work
 pub mod Ends
 pub mod FaultLine
+pub mod LazyRun
 pub mod Parts
 pub mod Write

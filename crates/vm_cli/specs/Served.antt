@@ -18,5 +18,9 @@ pub data Served : Type 0 where
   CheckFile : Served
   -- the machine of a file loaded, run on for so many instructions of each vCPU, and reported
   Restore : (run : ℕ) → Served
+  -- the same, where each page is read at its first touch
+  LazyRestore : (run : ℕ) → Served
+  -- so many bytes of RAM printed from a place on, which counts from the start of RAM, of a file whose machine has this shape
+  Peek : (shape : ShapeData) (at len : ℕ) → Served
   -- the guest that a seed gives, saved while it runs, and its file loaded
   Workload : (seed : ℕ) → Served

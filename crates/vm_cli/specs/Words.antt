@@ -6,13 +6,12 @@ use Rattle.vm_words.specs.declared.fault.UsageKind.{UsageKind}
 use Rattle.vm_words.specs.declared.fault.UsageKind.TheVariants.{NeedsThreads}
 use Rattle.vm_words.specs.declared.job.Job.{Job}
 use Rattle.vm_words.specs.declared.job.Job.TheVariants as jobs
-use Rattle.vm_words.specs.declared.job.Mode.{Mode}
 use Rattle.vm_words.specs.declared.job.Mode.TheVariants.{Sliced, Threads}
 use Rattle.vm_cli.specs.declared.answer.Fault.{Fault}
 use Rattle.vm_cli.specs.declared.answer.Fault.TheVariants.{Usage, NotYet, NoMemory}
 use Rattle.vm_cli.specs.declared.words.Caller.{Caller}
 use Rattle.vm_cli.specs.declared.words.Caller.TheVariants.{Still, Threaded}
-use Rattle.vm_cli.specs.Served.{Assembly, CheckFile, Restore, Save, Served, Workload}
+use Rattle.vm_cli.specs.Served.{Assembly, CheckFile, LazyRestore, Peek, Restore, Save, Served, Workload}
 
 -- ---- Which jobs are served
 
@@ -21,6 +20,8 @@ abbrev pub served_of : Job → Option Served
 served_of jobs.Assemble = Some Assembly
 served_of jobs.CheckFile = Some CheckFile
 served_of (jobs.Restore n false) = Some (Restore n)
+served_of (jobs.Restore n true) = Some (LazyRestore n)
+served_of (jobs.Peek shape at len) = Some (Peek shape at len)
 served_of (jobs.Save shape stop run Sliced turns input relay) = Some (Save shape input (record { stop = stop; run = run; turns = turns }))
 served_of (jobs.Workload seed) = Some (Workload seed)
 served_of job = None

@@ -8,7 +8,9 @@ use Rattle.vm_cli.specs.Images.{IsCrashSafe}
 use Rattle.vm_cli.specs.Jobs.Assembly.{Assembles, assembly_steps}
 use Rattle.vm_cli.specs.Jobs.CheckFile.{Checks}
 use Rattle.vm_cli.specs.Jobs.Common.{FaultPrinting, Printing, Takes, TakesReport, TakesWhole}
+use Rattle.vm_cli.specs.Jobs.LazyRestore.{RestoresLazily, StopsLazily, lazy_steps}
 use Rattle.vm_cli.specs.Jobs.Load.{load_and_print_steps}
+use Rattle.vm_cli.specs.Jobs.Peek.{PrintsRange, peek_steps}
 use Rattle.vm_cli.specs.Jobs.Restore.{Restores}
 use Rattle.vm_cli.specs.Jobs.Save.{EndsEarly, FailsToSave, LeavesMachine, Saves, save_steps}
 use Rattle.vm_cli.specs.Jobs.Workload.{FailsWorkload, SavesWorkload, workload_machine, workload_phases, workload_steps}
@@ -19,7 +21,7 @@ use Rattle.vm_cli.specs.Write.{KeepsFull}
 use Rattle.vm_cli.specs.declared.answer.Fault.{Fault}
 use Rattle.vm_cli.specs.declared.answer.Fault.TheVariants as faults
 use Rattle.vm_cli.specs.declared.words.Caller.{Caller}
-use Rattle.vm_cli.specs.Served.{Assembly, CheckFile, Restore, Save, Served, Workload}
+use Rattle.vm_cli.specs.Served.{Assembly, CheckFile, LazyRestore, Peek, Restore, Save, Served, Workload}
 
 -- ---- How far a job came
 
@@ -42,6 +44,7 @@ IsBeforeOutput (Some faults.NotYet) = Unit {0}
 IsBeforeOutput (Some (faults.ImageRefused refusal)) = Unit {0}
 IsBeforeOutput (Some (faults.FileRefused refusal)) = Unit {0}
 IsBeforeOutput (Some (faults.AsmRefused line kind)) = Unit {0}
+IsBeforeOutput (Some (faults.PeekRefused refusal)) = Unit {0}
 IsBeforeOutput (Some faults.ImageFault) = Unit {0}
 IsBeforeOutput (Some faults.NoMemory) = Unit {0}
 IsBeforeOutput _ = ⊥
@@ -64,6 +67,8 @@ steps_behind (Some (Save shape input phases)) old = save_steps shape old.image o
 steps_behind (Some Assembly) old = assembly_steps old.image old.output
 steps_behind (Some CheckFile) old = load_and_print_steps old.input
 steps_behind (Some (Restore n)) old = load_and_print_steps old.input
+steps_behind (Some (LazyRestore n)) old = lazy_steps old.input
+steps_behind (Some (Peek shape at len)) old = peek_steps shape at len old.input
 steps_behind (Some (Workload seed)) old = workload_steps old.output
 
 abbrev pub steps_of : Caller → List (List ℕ) → Outside → List Step
@@ -76,6 +81,8 @@ Does prints (Some (Save shape input phases)) old new end = Saves prints shape in
 Does prints (Some Assembly) old new end = Assembles prints old new end
 Does prints (Some CheckFile) old new end = Checks prints old new end
 Does prints (Some (Restore n)) old new end = Restores prints n old new end
+Does prints (Some (LazyRestore n)) old new end = RestoresLazily prints n old new end
+Does prints (Some (Peek shape at len)) old new end = PrintsRange prints shape at len old new end
 Does prints (Some (Workload seed)) old new end = SavesWorkload prints seed old new end
 
 -- What a job did that failed behind its second phase, where it was reported, and how that stands on the console: a report
@@ -89,12 +96,14 @@ Fails cut behind _ fault old new end = ⊥
 abbrev pub StopsEarly : Option Served → Outside → Outside → Same → End → Type 0
 StopsEarly (Some (Save shape input phases)) old new same end = EndsEarly shape input phases old.image new.image same.output old.output new.output end
 StopsEarly (Some (Workload seed)) old new same end = LeavesMachine (workload_machine seed) (workload_phases seed) same.output old.output new.output end
+StopsEarly (Some (LazyRestore n)) old new same end = StopsLazily n old.input end.fault end.first
 StopsEarly _ old new same end = end.first ≡ []
 
 -- which orders no end of a job has: that of a first phase, and that of a second
 abbrev pub HasNoFirst : Option Served → Type 0
 HasNoFirst (Some (Save shape input phases)) = ⊥
 HasNoFirst (Some (Restore n)) = ⊥
+HasNoFirst (Some (LazyRestore n)) = ⊥
 HasNoFirst (Some (Workload seed)) = ⊥
 HasNoFirst _ = Unit {0}
 
@@ -130,6 +139,8 @@ pub record TakesNothing (same : Same) : Type 0 where
 abbrev pub KeepsOthers : Option Served → Outside → Outside → Same → Type 0
 KeepsOthers (Some CheckFile) old new same = LooksAtInput old new same
 KeepsOthers (Some (Restore n)) old new same = LooksAtInput old new same
+KeepsOthers (Some (LazyRestore n)) old new same = LooksAtInput old new same
+KeepsOthers (Some (Peek shape at len)) old new same = LooksAtInput old new same
 KeepsOthers (Some (Workload seed)) old new same = TakesNothing same
 KeepsOthers _ old new same = same.input
 
@@ -155,6 +166,8 @@ IsUnwritten (Some (Save shape input phases)) fault = IsUsage fault
 IsUnwritten (Some (Workload seed)) fault = IsUsage fault
 IsUnwritten (Some CheckFile) fault = Unit {0}
 IsUnwritten (Some (Restore n)) fault = Unit {0}
+IsUnwritten (Some (LazyRestore n)) fault = Unit {0}
+IsUnwritten (Some (Peek shape at len)) fault = Unit {0}
 IsUnwritten _ fault = IsBeforeOutput fault ⊎ IsNotEmpty fault
 
 -- ---- The work

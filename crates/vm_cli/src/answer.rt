@@ -1,5 +1,5 @@
 ghost use Rattle.std.specs.Prelude.{◌≡◌};
-ghost use Rattle.vm_cli.specs.Answer.{fault_status, status_of, fault_of_image, fault_of_load, fault_of_save, fault_of_write, fault_of_text, fault_of_words};
+ghost use Rattle.vm_cli.specs.Answer.{fault_status, status_of, fault_of_image, fault_of_load, fault_of_peek, fault_of_save, fault_of_write, fault_of_text, fault_of_words};
 ghost use Rattle.vm_cli.specs.declared.answer.Fault.TheVariants.{NoMemory as out_of_memory};
 
 use crate::write_fault::WriteFault;
@@ -8,7 +8,9 @@ use flat_machine::Order;
 use guest_asm::{AsmFault, AsmKind};
 use image_file::{ImageFault, ImageRefusal};
 use loader::{LoadFault, Refusal};
+use page_peek::{PeekFault, PeekRefusal};
 use ram_block::NoMemory;
+use std::alloc::AllocError;
 use vm_words::{UsageKind, WordsFault};
 
 /// Why a job ended before its end.
@@ -32,6 +34,8 @@ pub enum Fault {
     NotEmpty { len: u64 },
     /// The text that was to be assembled has a wrong line: the first, counted from 1, and what is wrong with it.
     AsmRefused { line: u32, kind: AsmKind },
+    /// The file to be looked into has other heads than those of the shape, or ends in a page of the range.
+    PeekRefused(PeekRefusal),
 }
 
 impl Fault {
@@ -49,6 +53,7 @@ impl Fault {
             Fault::NoMemory => 7,
             Fault::NotEmpty { .. } => 8,
             Fault::AsmRefused { .. } => 9,
+            Fault::PeekRefused(_) => 10,
         }
     }
 }
@@ -85,6 +90,26 @@ impl From<LoadFault> for Fault {
             LoadFault::ReadFault => Fault::FileFault,
             LoadFault::NoMemory => Fault::NoMemory,
         }
+    }
+}
+
+impl From<PeekFault> for Fault {
+    ghost from_gives = { λ e f. f ≡ fault_of_peek e };
+
+    fn from(fault: PeekFault) -> Self {
+        match fault {
+            PeekFault::Refused(refusal) => Fault::PeekRefused(refusal),
+            PeekFault::ReadFault => Fault::FileFault,
+            PeekFault::NoMemory => Fault::NoMemory,
+        }
+    }
+}
+
+impl From<AllocError> for Fault {
+    ghost from_gives = { λ _ f. f ≡ out_of_memory };
+
+    fn from(_: AllocError) -> Self {
+        Fault::NoMemory
     }
 }
 

@@ -1,6 +1,6 @@
 ghost use Rattle.std.specs.Prelude.{◌≡◌, [], ◌∷◌, ◌++◌};
 ghost use Rattle.std.specs.Fmt.{decimal};
-ghost use Rattle.vm_cli.specs.FaultLine.{asm_text, elf_text, fault_line, file_words, number_then, then_number, two_numbers, usage_text};
+ghost use Rattle.vm_cli.specs.FaultLine.{asm_text, elf_text, fault_line, file_words, number_then, peek_words, then_number, two_numbers, usage_text};
 ghost use Rattle.vm_cli.specs.Parts.{parts_text};
 ghost use Rattle.loader.specs.declared.refusal.Refusal.TheVariants.{Device as device_refusal, Header as header_refusal, Name as name_refusal};
 
@@ -11,6 +11,7 @@ use guest_asm::AsmKind;
 use image_file::{ElfKind, ImageRefusal};
 use loader::Refusal;
 use mapped_ram_header::HeaderFault;
+use page_peek::PeekRefusal;
 use vm_words::UsageKind;
 
 /// The end of a line.
@@ -43,6 +44,7 @@ pub(crate) fn fault_line(fault: Fault) -> [Part; 7]
         Fault::AsmRefused { line, kind } => {
             number_and_word("fault 9 assembly ", u64::from(line), asm_text(kind))
         }
+        Fault::PeekRefused(refusal) => peek_line(refusal),
     }
 }
 
@@ -119,6 +121,18 @@ fn device_line(at: u64, fault: DeviceFault) -> [Part; 7]
             two_numbers("fault 3 file device-input-length ", at, u64::from(v))
         }
         DeviceFault::Clock(v) => two_numbers("fault 3 file device-clock ", at, v),
+    }
+}
+
+// The line of a file that isn't looked into.
+fn peek_line(refusal: PeekRefusal) -> [Part; 7]
+    ensures { parts_text result ≡ peek_words refusal ++ 10 ∷ [] }
+{
+    match refusal {
+        PeekRefusal::Truncated { at } => number("fault 10 peek truncated ", at),
+        PeekRefusal::Differs { at, found } => {
+            two_numbers("fault 10 peek differs ", at, u64::from(found))
+        }
     }
 }
 

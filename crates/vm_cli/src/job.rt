@@ -8,7 +8,9 @@ ghost use Rattle.vm_cli.specs.Work.{Works, steps_of};
 use crate::Fault;
 use crate::assembly::assemble_image;
 use crate::check::check_input;
+use crate::lazy::restore_lazily;
 use crate::orders::Orders;
+use crate::peek::peek_input;
 use crate::restore::restore_input;
 use crate::save::save_image;
 use crate::words::{Caller, serve_line};
@@ -54,9 +56,13 @@ pub(crate) fn run_job<S: Source, M: Medium, K: Sink>(
         ),
         Job::Assemble => assemble_image(alloc, image, output, console),
         Job::CheckFile => check_input(alloc, input, console),
-        Job::Restore { run, .. } => {
+        Job::Restore { run, lazy: false } => {
             restore_input(alloc, *run, input, console, &mut orders.first)
         }
+        Job::Restore { run, lazy: true } => {
+            restore_lazily(alloc, *run, input, console, &mut orders.first)
+        }
+        Job::Peek { shape, at, len } => peek_input(alloc, shape, *at, *len, input, console),
         Job::Workload { seed } => save_workload(alloc, *seed, output, console, orders),
         _ => unreachable!(),
     }

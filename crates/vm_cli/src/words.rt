@@ -81,7 +81,7 @@ fn is_served(job: &Job) -> bool
 {
     match job {
         Job::Assemble | Job::CheckFile | Job::Workload { .. } => true,
-        Job::Restore { lazy, .. } => !*lazy,
+        Job::Restore { .. } | Job::Peek { .. } => true,
         Job::Save { mode, .. } => *mode == Mode::Sliced,
         _ => false,
     }

@@ -25,7 +25,6 @@ use Rattle.vm_cli.specs.declared.answer.Fault.{Fault}
 use Rattle.vm_cli.specs.declared.answer.Fault.TheVariants as faults
 use Rattle.vm_cli.specs.Served.{SlicedPhases}
 use Rattle.vm_report.specs.Report.{report}
-use Rattle.vm_report.specs.declared.save_line.SaveLine.{SaveLine}
 
 -- ---- Steps
 

@@ -1,13 +1,14 @@
 -- A line that is served leaves cause and work to its job; where it isn't, nothing was done.
-use Rattle.std.proofs.Common.{◌≡◌, inl, ap, refl, subst, ◌∙◌, true}
+use Rattle.std.proofs.Common.{◌≡◌, inl, ap, refl, sym, subst, ◌∙◌, true}
 use Rattle.std.specs.Prelude.{is_some}
 use Rattle.flat_machine.specs.Order.{OrderData}
 use Rattle.medium.specs.Members.{file_state}
 use Rattle.medium.proofs.Leaves.{leaves_same}
 use Rattle.vm_cli.specs.Outside.{faults_of, outside}
-use Rattle.vm_cli.specs.Served.{Assembly, CheckFile, Restore, Save, Workload}
+use Rattle.vm_cli.specs.Served.{Assembly, CheckFile, LazyRestore, Peek, Restore, Workload}
 use Rattle.vm_cli.specs.Words.{served_of}
-use Rattle.vm_cli.proofs.Jobs.{before_console, failed_with, full_stays, line_cause, line_works, looked_at, reads_nothing, save_failed, served_cause, served_restore, served_save, served_works, undone_fault, unwritten_crash}
+use Rattle.vm_words.specs.declared.job.Job.TheVariants as jobs
+use Rattle.vm_cli.proofs.Jobs.{before_console, failed_with, full_stays, line_cause, line_works, looked_at, reads_nothing, save_failed, served_cause, served_save, served_works, undone_fault, unwritten_crash}
 use Rattle.vm_cli.proofs.job.run_job.Goals as goal
 
 pub returns-in-Save-clause-cause : goal.returns-in-Save-clause-cause
@@ -83,20 +84,74 @@ returns-in-CheckFile-clause-works g c =
       count = e.count;
     })
 
-pub returns-in-Restore-clause-cause : goal.returns-in-Restore-clause-cause
-returns-in-Restore-clause-cause g c =
-    served_cause _ _ _ _ (Restore c.in-Restore.run') _ _ c.in_ok-job.ensures.no_fault (c.in_ok-job.ensures.ok ∙ ap served_of c.in-Restore.is ∙ served_restore _ _ (subst (λ j. is_some (served_of j) ≡ true) c.in-Restore.is c.in_ok-job.ensures.served))
+pub returns-in-Restore-default-false-clause-cause : goal.returns-in-Restore-default-false-clause-cause
+returns-in-Restore-default-false-clause-cause g c =
+    served_cause _ _ _ _ (Restore c.in-Restore-default-false.run') _ _ c.in_ok-job.ensures.no_fault (c.in_ok-job.ensures.ok ∙ ap served_of c.in-Restore-default-false.is ∙ ap (λ lazy. served_of (jobs.Restore c.in-Restore-default-false.run' lazy)) (sym c.in-Restore-default-false.lazy-is ∙ c.in-Restore-default-false.lazy-test))
     (c.restore_input.ensures.cause (faults_of (outside g.S.Source g.M.Readable g.K.Sink c.args.image.now c.args.input.now c.args.output.now c.args.console.now))
     (faults_of (outside g.S.Source g.M.Readable g.K.Sink c.args.image.now c.restore_input.new.input c.args.output.now c.restore_input.new.console)))
 
-pub returns-in-Restore-clause-works : goal.returns-in-Restore-clause-works
-returns-in-Restore-clause-works g c =
+pub returns-in-Restore-default-false-clause-works : goal.returns-in-Restore-default-false-clause-works
+returns-in-Restore-default-false-clause-works g c =
     let e = c.restore_input.ensures in
-    served_works _ (Restore c.in-Restore.run') _ _ _ _ (c.in_ok-job.ensures.ok ∙ ap served_of c.in-Restore.is ∙ served_restore _ _ (subst (λ j. is_some (served_of j) ≡ true) c.in-Restore.is c.in_ok-job.ensures.served))
+    served_works _ (Restore c.in-Restore-default-false.run') _ _ _ _ (c.in_ok-job.ensures.ok ∙ ap served_of c.in-Restore-default-false.is ∙ ap (λ lazy. served_of (jobs.Restore c.in-Restore-default-false.run' lazy)) (sym c.in-Restore-default-false.lazy-is ∙ c.in-Restore-default-false.lazy-test))
     (record {
       done = λ done. let ran = e.done done in record { after = ran.0; phase = ran.1; printed = ran.2 };
       failed = λ fault is other. inl (ap (λ (o : OrderData). o.members) (e.no_phase (λ done. undone_fault _ fault is other done)) ∙ c.requires.first, e.silent (before_console _ fault is other));
       orders = record { first = λ none. absurd none; second = λ _. c.requires.second };
+      kept = record {
+        others = record { input = e.leaves; image = refl; output = refl };
+        input = λ words. absurd (e.words_stand words);
+        image = λ _. refl;
+        read = reads_nothing _ _;
+        output = λ _. refl;
+        not_empty = λ _. leaves_same _;
+        full = full_stays _;
+      };
+      crash = λ _. looked_at (file_state g.M.Readable c.args.output.now) _ (g.met.M.Readable.only_now _) (leaves_same _);
+      count = e.count;
+    })
+
+pub returns-in-Restore-default-true-clause-cause : goal.returns-in-Restore-default-true-clause-cause
+returns-in-Restore-default-true-clause-cause g c =
+    served_cause _ _ _ _ (LazyRestore c.in-Restore-default-true.run') _ _ c.in_ok-job.ensures.no_fault (c.in_ok-job.ensures.ok ∙ ap served_of c.in-Restore-default-true.is ∙ ap (λ lazy. served_of (jobs.Restore c.in-Restore-default-true.run' lazy)) (sym c.in-Restore-default-true.lazy-is ∙ c.in-Restore-default-true.lazy-test))
+    (c.restore_lazily.ensures.cause (faults_of (outside g.S.Source g.M.Readable g.K.Sink c.args.image.now c.args.input.now c.args.output.now c.args.console.now))
+    (faults_of (outside g.S.Source g.M.Readable g.K.Sink c.args.image.now c.restore_lazily.new.input c.args.output.now c.restore_lazily.new.console)))
+
+pub returns-in-Restore-default-true-clause-works : goal.returns-in-Restore-default-true-clause-works
+returns-in-Restore-default-true-clause-works g c =
+    let e = c.restore_lazily.ensures in
+    served_works _ (LazyRestore c.in-Restore-default-true.run') _ _ _ _ (c.in_ok-job.ensures.ok ∙ ap served_of c.in-Restore-default-true.is ∙ ap (λ lazy. served_of (jobs.Restore c.in-Restore-default-true.run' lazy)) (sym c.in-Restore-default-true.lazy-is ∙ c.in-Restore-default-true.lazy-test))
+    (record {
+      done = λ done. let ran = e.done done in record { pages = ran.0; after = ran.1; phase = ran.2; printed = ran.3 };
+      failed = λ fault is other. inl (e.stopped (λ done. undone_fault _ fault is other done), e.silent (before_console _ fault is other));
+      orders = record { first = λ none. absurd none; second = λ _. c.requires.second };
+      kept = record {
+        others = record { input = e.leaves; image = refl; output = refl };
+        input = λ words. absurd (e.words_stand words);
+        image = λ _. refl;
+        read = reads_nothing _ _;
+        output = λ _. refl;
+        not_empty = λ _. leaves_same _;
+        full = full_stays _;
+      };
+      crash = λ _. looked_at (file_state g.M.Readable c.args.output.now) _ (g.met.M.Readable.only_now _) (leaves_same _);
+      count = e.count;
+    })
+
+pub returns-in-Peek-clause-cause : goal.returns-in-Peek-clause-cause
+returns-in-Peek-clause-cause g c =
+    served_cause _ _ _ _ (Peek c.in-Peek.shape c.in-Peek.at c.in-Peek.len) _ _ c.in_ok-job.ensures.no_fault (c.in_ok-job.ensures.ok ∙ ap served_of c.in-Peek.is)
+    (c.peek_input.ensures.cause (faults_of (outside g.S.Source g.M.Readable g.K.Sink c.args.image.now c.args.input.now c.args.output.now c.args.console.now))
+    (faults_of (outside g.S.Source g.M.Readable g.K.Sink c.args.image.now c.peek_input.new.input c.args.output.now c.peek_input.new.console)))
+
+pub returns-in-Peek-clause-works : goal.returns-in-Peek-clause-works
+returns-in-Peek-clause-works g c =
+    let e = c.peek_input.ensures in
+    served_works _ (Peek c.in-Peek.shape c.in-Peek.at c.in-Peek.len) _ _ _ _ (c.in_ok-job.ensures.ok ∙ ap served_of c.in-Peek.is)
+    (record {
+      done = λ done. let found = e.done done in record { bytes = found.0; range = found.1; printed = found.2 };
+      failed = λ fault is other. inl (c.requires.first, e.silent (before_console _ fault is other));
+      orders = record { first = λ _. c.requires.first; second = λ _. c.requires.second };
       kept = record {
         others = record { input = e.leaves; image = refl; output = refl };
         input = λ words. absurd (e.words_stand words);

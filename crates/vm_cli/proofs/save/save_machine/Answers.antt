@@ -3,7 +3,7 @@ use Rattle.std.proofs.Common.{inr, refl}
 use Rattle.vm_cli.specs.Answer.{fault_in}
 use Rattle.vm_cli.specs.Outside.{End, end_of}
 use Rattle.vm_cli.specs.Served.{SlicedPhases}
-use Rattle.vm_cli.proofs.SaveEnds.{HasSaved, done_by, failed_by}
+use Rattle.vm_cli.proofs.SaveEnds.{done_by, failed_by}
 use Rattle.vm_cli.proofs.save.save_machine.Goals as goal
 use Rattle.vm_cli.proofs.save.save_machine.Goals.{After-drop-out-4}
 

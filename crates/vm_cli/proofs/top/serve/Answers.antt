@@ -2,7 +2,7 @@
 use Rattle.std.proofs.Common.{ap}
 use Rattle.flat_machine.specs.Order.{OrderData}
 use Rattle.medium.specs.Members.{sink_state}
-use Rattle.vm_cli.proofs.Jobs.{end_by, ends_badly, ends_well}
+use Rattle.vm_cli.proofs.JobEnds.{end_by, ends_badly, ends_well}
 use Rattle.vm_cli.proofs.top.serve.Goals as goal
 
 pub returns-in-Ok-clause-ends : goal.returns-in-Ok-clause-ends
