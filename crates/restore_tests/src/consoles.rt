@@ -1,8 +1,7 @@
-use crate::calls::{read_by, read_where};
 use snapshot_by_hand::{AT_BOOT, SMALLEST, Snapshot, file_of};
 use std::alloc::Global;
 use std::test::Fail;
-use test_lines::{failing, failing_from, well};
+use test_lines::{Fails, Line, READER, answer, difference, is_order};
 
 /// The line of the fault, which is written in two calls.
 const LINE: &str = "fault 5 console-fault\n";
@@ -11,57 +10,74 @@ const LINE: &str = "fault 5 console-fault\n";
 /// row, and the timer with RAM.
 const WRITES: u64 = 6;
 
-const RESTORE: [&str; 3] = ["restore", "in=a", "run=1"];
+/// A machine of two vCPUs with a row of serial bytes.
+const OF_TWO: Snapshot<'static> = Snapshot {
+    cpus: &[AT_BOOT; 2],
+    serial: b"A",
+    ..SMALLEST
+};
 
-/// A file of two vCPUs and a row of serial bytes.
-fn file_of_two(alloc: Global) -> Result<Vec<u8>, Fail> {
-    let two = Snapshot {
-        cpus: &[AT_BOOT; 2],
-        serial: b"A",
-        ..SMALLEST
-    };
-    Ok(file_of(alloc, &two)?)
+const REPORT: &str = "clock 2
+cpu 0 running pc 0000000080000004 steps 1
+x5 0000000000000001
+cpu 1 running pc 0000000080000004 steps 1
+x5 0000000000000001
+serial 1 lost 0
+41
+timer 0000000000000000
+ram pages 1 nonzero 1 sum 0000007300100293
+";
+
+/// A restore over a console.
+fn restore(file: &[u8], console_fails: Fails) -> Line<'_> {
+    Line {
+        words: &["restore", "in=a", "run=1"],
+        input: file,
+        console_fails,
+        printed: REPORT,
+        first: &[0, 1],
+        ..READER
+    }
+}
+
+/// How many bytes of the report were printed in front of a line, where the console fails and all else is as it has to be.
+fn front_of(alloc: Global, line: &Line, behind: &str) -> Result<Option<usize>, Fail> {
+    let done = answer(alloc, line)?;
+    if done.answer.status != 5 || !is_order(&done.answer.first, line.first) {
+        return Ok(None);
+    }
+    Ok(
+        done.printed()
+            .strip_suffix(behind)
+            .filter(|front| REPORT.starts_with(front))
+            .map(str::len),
+    )
 }
 
 #[test]
 fn a_failed_write_ends_the_report(rt: HostRuntime) -> Result<(), Fail> {
     let alloc = rt.alloc();
-    let file = file_of_two(alloc)?;
-    let whole = read_by(alloc, &RESTORE, &file)?;
-    assert_eq!(rt; whole.answer.status, 0);
+    let file = file_of(alloc, &OF_TWO)?;
     let mut last = None;
     for call in 1..=WRITES {
-        let done = read_where(alloc, &RESTORE, &file, well(alloc), failing(alloc, call)?)?;
-        assert_eq!(rt; done.answer.status, 5);
-        assert_eq!(rt; done.answer.first.count(), 2);
-        let front = done.printed().strip_suffix(LINE);
-        assert!(rt; front.is_some_and(|front| whole.printed().starts_with(front)));
-        assert!(rt; front.map(str::len) > last);
-        last = front.map(str::len);
+        let front = front_of(alloc, &restore(&file, Fails::At(call)), LINE)?;
+        assert!(rt; front > last, "call {call}");
+        last = front;
     }
-    let done = read_where(
-        alloc,
-        &RESTORE,
-        &file,
-        well(alloc),
-        failing(alloc, WRITES + 1)?,
-    )?;
-    assert_eq!(rt; done.seen(), (0, whole.printed()));
+    let line = restore(&file, Fails::At(WRITES + 1));
+    assert_eq!(rt; difference(alloc, &line)?, None);
     Ok(())
 }
 
 #[test]
 fn a_console_that_goes_on_failing_gets_no_line(rt: HostRuntime) -> Result<(), Fail> {
     let alloc = rt.alloc();
-    let file = file_of_two(alloc)?;
-    let whole = read_by(alloc, &RESTORE, &file)?;
+    let file = file_of(alloc, &OF_TWO)?;
+    let mut last = None;
     for call in 1..=WRITES {
-        let plan = failing_from(alloc, call);
-        let done = read_where(alloc, &RESTORE, &file, well(alloc), plan)?;
-        assert_eq!(rt; done.answer.status, 5);
-        assert_eq!(rt; done.answer.first.count(), 2);
-        assert!(rt; whole.printed().starts_with(done.printed()));
-        assert!(rt; done.printed().len() < whole.printed().len());
+        let front = front_of(alloc, &restore(&file, Fails::From(call)), "")?;
+        assert!(rt; front > last && front < Some(REPORT.len()), "call {call}");
+        last = front;
     }
     Ok(())
 }
@@ -70,10 +86,16 @@ fn a_console_that_goes_on_failing_gets_no_line(rt: HostRuntime) -> Result<(), Fa
 fn a_checked_file_whose_line_fails_has_status_5(rt: HostRuntime) -> Result<(), Fail> {
     let alloc = rt.alloc();
     let file = file_of(alloc, &SMALLEST)?;
-    let line = ["check", "in=a"];
-    let done = read_where(alloc, &line, &file, well(alloc), failing(alloc, 1)?)?;
-    assert_eq!(rt; done.seen(), (5, LINE));
-    let done = read_where(alloc, &line, &file, well(alloc), failing_from(alloc, 1))?;
-    assert_eq!(rt; done.seen(), (5, ""));
+    for (console_fails, printed) in [(Fails::At(1), LINE), (Fails::From(1), "")] {
+        let line = Line {
+            words: &["check", "in=a"],
+            input: &file,
+            console_fails,
+            status: 5,
+            printed,
+            ..READER
+        };
+        assert_eq!(rt; difference(alloc, &line)?, None);
+    }
     Ok(())
 }

@@ -1,20 +1,39 @@
-use crate::calls::{read_by, read_where};
 use snapshot_by_hand::{SMALLEST, Snapshot, file_of};
 use std::alloc::{AllocError, Global};
 use std::test::Fail;
-use test_lines::{failing, well};
+use test_lines::{Differs, Fails, Line, READER, difference};
 
 /// The guest at boot with the serial section of version 1.
-fn old() -> Snapshot<'static> {
-    Snapshot {
-        serial_version: 1,
-        ..SMALLEST
-    }
-}
+const OLD: Snapshot<'static> = Snapshot {
+    serial_version: 1,
+    ..SMALLEST
+};
+
+const OF_TWO_BLOCKS: Snapshot<'static> = Snapshot {
+    blocks: 2,
+    ..SMALLEST
+};
 
 const CHECK: [&str; 2] = ["check", "in=a"];
 
 const RESTORE: [&str; 3] = ["restore", "in=a", "run=1"];
+
+/// In what the answer to the words over a file differs from a refusal with this line, if in anything.
+fn refusal<'a>(
+    alloc: Global,
+    words: &'a [&'static str],
+    file: &'a [u8],
+    printed: &'a str,
+) -> Result<Option<Differs>, Fail> {
+    let line = Line {
+        words,
+        input: file,
+        status: 3,
+        printed,
+        ..READER
+    };
+    Ok(difference(alloc, &line)?)
+}
 
 /// A file of these bytes with others over them, from a place on.
 fn changed(alloc: Global, file: &[u8], at: usize, bytes: &[u8]) -> Result<Vec<u8>, AllocError> {
@@ -25,30 +44,26 @@ fn changed(alloc: Global, file: &[u8], at: usize, bytes: &[u8]) -> Result<Vec<u8
     Ok(file)
 }
 
+/// A snapshot, the length of its file, and what a check of it prints.
+static WHOLE: [(Snapshot, usize, &str); 3] = [
+    (SMALLEST, 1_053_072, "ok vcpus 1 blocks 1 pages 1\n"),
+    (OLD, 1_053_068, "ok vcpus 1 blocks 1 pages 1\n"),
+    (OF_TWO_BLOCKS, 2_101_648, "ok vcpus 1 blocks 2 pages 1\n"),
+];
+
 #[test]
 fn a_whole_file_is_checked(rt: HostRuntime) -> Result<(), Fail> {
     let alloc = rt.alloc();
-    for (snapshot, len, printed) in [
-        (SMALLEST, 1_053_072, "ok vcpus 1 blocks 1 pages 1\n"),
-        (old(), 1_053_068, "ok vcpus 1 blocks 1 pages 1\n"),
-        (
-            Snapshot {
-                blocks: 2,
-                ..SMALLEST
-            },
-            2_101_648,
-            "ok vcpus 1 blocks 2 pages 1\n",
-        ),
-    ] {
-        let file = file_of(alloc, &snapshot)?;
-        assert_eq!(rt; file.len(), len);
-        let done = read_by(alloc, &CHECK, &file)?;
-        assert_eq!(rt; done.seen(), (0, printed));
-        assert!(rt; done.files.input.bytes() == file.as_slice());
-        assert_eq!(rt;
-            (done.answer.first.count(), done.answer.second.count()),
-            (0, 0)
-        );
+    for (snapshot, len, printed) in &WHOLE {
+        let file = file_of(alloc, snapshot)?;
+        assert!(rt; file.len() == *len);
+        let line = Line {
+            words: &CHECK,
+            input: &file,
+            printed,
+            ..READER
+        };
+        assert_eq!(rt; difference(alloc, &line)?, None);
     }
     Ok(())
 }
@@ -85,15 +100,14 @@ static WRONG_BYTES: [(usize, &[u8], &str); 24] = [
 #[test]
 fn a_wrong_number_is_printed_with_its_place(rt: HostRuntime) -> Result<(), Fail> {
     let alloc = rt.alloc();
-    let file = file_of(alloc, &old())?;
-    for (at, bytes, line) in &WRONG_BYTES {
+    let file = file_of(alloc, &OLD)?;
+    for (at, bytes, printed) in &WRONG_BYTES {
         let wrong = changed(alloc, &file, *at, bytes)?;
-        assert_eq!(rt; read_by(alloc, &CHECK, &wrong)?.seen(), (3, *line));
-        let done = read_by(alloc, &RESTORE, &wrong)?;
-        assert_eq!(rt; done.seen(), (3, *line));
+        assert_eq!(rt; refusal(alloc, &CHECK, &wrong, printed)?, None, "{printed}");
         assert_eq!(rt;
-            (done.answer.first.count(), done.answer.second.count()),
-            (0, 0)
+            refusal(alloc, &RESTORE, &wrong, printed)?,
+            None,
+            "{printed}"
         );
     }
     Ok(())
@@ -136,38 +150,41 @@ static PIECES: [(usize, usize, &str); 28] = [
 #[test]
 fn a_cut_file_is_refused_at_the_piece_that_it_ends_in(rt: HostRuntime) -> Result<(), Fail> {
     let alloc = rt.alloc();
-    let file = file_of(alloc, &old())?;
-    for (start, next, line) in &PIECES {
+    let file = file_of(alloc, &OLD)?;
+    for (start, next, printed) in &PIECES {
         let last = next.saturating_sub(1);
         for cut in [*start, last.min(start.saturating_add(1)), last] {
             let cut = file.get(..cut).unwrap_or(&[]);
-            assert_eq!(rt; read_by(alloc, &CHECK, cut)?.seen(), (3, *line));
+            assert_eq!(rt; refusal(alloc, &CHECK, cut, printed)?, None, "{printed}");
         }
     }
     Ok(())
 }
 
+/// A snapshot, and the lines of its file with a byte more and with a byte less.
+static ENDS: [(Snapshot, &str, &str); 2] = [
+    (
+        OLD,
+        "fault 3 file trailing 1053068\n",
+        "fault 3 file truncated 1053067\n",
+    ),
+    (
+        SMALLEST,
+        "fault 3 file trailing 1053072\n",
+        "fault 3 file truncated 1053071\n",
+    ),
+];
+
 #[test]
 fn a_longer_or_shorter_file_is_refused_at_its_end(rt: HostRuntime) -> Result<(), Fail> {
     let alloc = rt.alloc();
-    for (snapshot, longer, shorter) in [
-        (
-            old(),
-            "fault 3 file trailing 1053068\n",
-            "fault 3 file truncated 1053067\n",
-        ),
-        (
-            SMALLEST,
-            "fault 3 file trailing 1053072\n",
-            "fault 3 file truncated 1053071\n",
-        ),
-    ] {
-        let mut file = file_of(alloc, &snapshot)?;
+    for (snapshot, longer, shorter) in &ENDS {
+        let mut file = file_of(alloc, snapshot)?;
         let len = file.len();
         file.push(0)?;
-        assert_eq!(rt; read_by(alloc, &CHECK, &file)?.seen(), (3, longer));
+        assert_eq!(rt; refusal(alloc, &CHECK, &file, longer)?, None);
         file.truncate(len.saturating_sub(1));
-        assert_eq!(rt; read_by(alloc, &CHECK, &file)?.seen(), (3, shorter));
+        assert_eq!(rt; refusal(alloc, &CHECK, &file, shorter)?, None);
     }
     Ok(())
 }
@@ -176,14 +193,17 @@ fn a_longer_or_shorter_file_is_refused_at_its_end(rt: HostRuntime) -> Result<(),
 fn a_read_that_failed_is_no_refusal(rt: HostRuntime) -> Result<(), Fail> {
     let alloc = rt.alloc();
     let file = file_of(alloc, &SMALLEST)?;
-    for line in [CHECK.as_slice(), RESTORE.as_slice()] {
+    for words in [CHECK.as_slice(), RESTORE.as_slice()] {
         for call in 1..20 {
-            let done = read_where(alloc, line, &file, failing(alloc, call)?, well(alloc))?;
-            assert_eq!(rt; done.seen(), (4, "fault 4 file-fault\n"));
-            assert_eq!(rt;
-                (done.answer.first.count(), done.answer.second.count()),
-                (0, 0)
-            );
+            let line = Line {
+                words,
+                input: &file,
+                input_fails: Fails::At(call),
+                status: 4,
+                printed: "fault 4 file-fault\n",
+                ..READER
+            };
+            assert_eq!(rt; difference(alloc, &line)?, None, "call {call}");
         }
     }
     Ok(())

@@ -1,25 +1,27 @@
-use crate::calls::read_by;
-use flat_machine::Order;
 use snapshot_by_hand::{AT_BOOT, Cpu, SMALLEST, Snapshot, file_of};
 use std::alloc::Global;
-use std::process::Abort;
 use std::test::Fail;
-use test_lines::is_order;
+use test_lines::{Differs, Line, READER, difference};
 
-/// Asserts what a restore of the snapshot prints.
-fn assert_report<R: Abort>(
-    rt: &R,
+/// A restore alone.
+const NO_RUN: [&str; 2] = ["restore", "in=a"];
+
+/// In what a restore of a file differs from the report and the order that are wanted, if in anything.
+fn restored<'a>(
     alloc: Global,
-    snapshot: &Snapshot,
-    run: &str,
-    report: &str,
-) -> Result<Order, Fail> {
-    let file = file_of(alloc, snapshot)?;
-    let done = read_by(alloc, &["restore", "in=a", run], &file)?;
-    assert_eq!(rt; done.seen(), (0, report));
-    assert!(rt; done.files.input.bytes() == file.as_slice());
-    assert_eq!(rt; done.answer.second.count(), 0);
-    Ok(done.answer.first)
+    file: &'a [u8],
+    words: &'a [&'static str],
+    printed: &'a str,
+    first: &'a [u8],
+) -> Result<Option<Differs>, Fail> {
+    let line = Line {
+        words,
+        input: file,
+        printed,
+        first,
+        ..READER
+    };
+    Ok(difference(alloc, &line)?)
 }
 
 const NOT_RUN: &str = "clock 0
@@ -45,17 +47,24 @@ timer 0000000000000000
 ram pages 1 nonzero 1 sum 0000007300100293
 ";
 
+/// A restore, the report, and the members of the order.
+static RUNS: [(&[&str], &str, &[u8]); 4] = [
+    (&["restore", "in=a", "run=0"], NOT_RUN, &[]),
+    (&["restore", "in=a", "run=1"], AFTER_ONE, &[0]),
+    (&["restore", "in=a", "run=2"], AT_ECALL, &[0, 0]),
+    (&["restore", "in=a", "run=1000000"], AT_ECALL, &[0, 0]),
+];
+
 #[test]
 fn the_guest_runs_as_many_instructions_as_are_asked_for(rt: HostRuntime) -> Result<(), Fail> {
     let alloc = rt.alloc();
-    for (run, report, order) in [
-        ("run=0", NOT_RUN, [].as_slice()),
-        ("run=1", AFTER_ONE, [0].as_slice()),
-        ("run=2", AT_ECALL, [0, 0].as_slice()),
-        ("run=1000000", AT_ECALL, [0, 0].as_slice()),
-    ] {
-        let first = assert_report(&rt, alloc, &SMALLEST, run, report)?;
-        assert!(rt; is_order(&first, order));
+    let file = file_of(alloc, &SMALLEST)?;
+    for (words, report, order) in &RUNS {
+        assert_eq!(rt;
+            restored(alloc, &file, words, report, order)?,
+            None,
+            "{report}"
+        );
     }
     Ok(())
 }
@@ -78,18 +87,20 @@ timer 8000000000000001
 ram pages 8 nonzero 1 sum 0000007300100293
 ";
 
+const SAVED: Snapshot<'static> = Snapshot {
+    blocks: 8,
+    cpus: &[RAN],
+    lost: u64::MAX,
+    clock: 1 << 62,
+    cmp: 0x8000_0000_0000_0001,
+    ..SMALLEST
+};
+
 #[test]
 fn registers_lost_bytes_and_timer_are_those_of_the_file(rt: HostRuntime) -> Result<(), Fail> {
     let alloc = rt.alloc();
-    let snapshot = Snapshot {
-        blocks: 8,
-        cpus: &[RAN],
-        lost: u64::MAX,
-        clock: 1 << 62,
-        cmp: 0x8000_0000_0000_0001,
-        ..SMALLEST
-    };
-    assert_report(&rt, alloc, &snapshot, "run=0", AS_SAVED)?;
+    let file = file_of(alloc, &SAVED)?;
+    assert_eq!(rt; restored(alloc, &file, &NO_RUN, AS_SAVED, &[])?, None);
     Ok(())
 }
 
@@ -134,8 +145,16 @@ fn a_halted_vcpu_stays_halted_by_its_cause(rt: HostRuntime) -> Result<(), Fail> 
             clock: 5,
             ..SMALLEST
         };
-        let first = assert_report(&rt, alloc, &snapshot, "run=3", report)?;
-        assert_eq!(rt; first.count(), 0);
+        assert_eq!(rt;
+            restored(
+                alloc,
+                &file_of(alloc, &snapshot)?,
+                &["restore", "in=a", "run=3"],
+                report,
+                &[]
+            )?,
+            None
+        );
     }
     Ok(())
 }
@@ -162,15 +181,17 @@ timer 0000000000000000
 ram pages 1 nonzero 1 sum 0000007300100293
 ";
 
+const OF_EIGHT: Snapshot<'static> = Snapshot {
+    cpus: &[AT_BOOT; 8],
+    ..SMALLEST
+};
+
 #[test]
 fn eight_vcpus_take_turns(rt: HostRuntime) -> Result<(), Fail> {
     let alloc = rt.alloc();
-    let snapshot = Snapshot {
-        cpus: &[AT_BOOT; 8],
-        ..SMALLEST
-    };
-    let first = assert_report(&rt, alloc, &snapshot, "run=1", EIGHT)?;
-    assert!(rt; is_order(&first, &[0, 1, 2, 3, 4, 5, 6, 7]));
+    let file = file_of(alloc, &OF_EIGHT)?;
+    let (words, order) = (["restore", "in=a", "run=1"], [0, 1, 2, 3, 4, 5, 6, 7]);
+    assert_eq!(rt; restored(alloc, &file, &words, EIGHT, &order)?, None);
     Ok(())
 }
 
@@ -210,7 +231,11 @@ fn serial_bytes_stand_32_in_a_line(rt: HostRuntime) -> Result<(), Fail> {
             lost: 1,
             ..SMALLEST
         };
-        assert_report(&rt, alloc, &snapshot, "run=0", report)?;
+        assert_eq!(rt;
+            restored(alloc, &file_of(alloc, &snapshot)?, &NO_RUN, report, &[])?,
+            None,
+            "{len}"
+        );
     }
     Ok(())
 }

@@ -1,7 +1,7 @@
-use crate::row::{Row, assert_saved, restored, save};
-use snapshot_by_hand::{GUEST, SMALLEST, Snapshot};
+use crate::row::{Save, all_restored, checked, saved};
+use snapshot_by_hand::{GUEST, SMALLEST, Snapshot, file_of};
+use std::alloc::Global;
 use std::test::Fail;
-use test_lines::{Files, full_file, serve, well};
 
 const OF_ONE_PAGE: &str = "save complete blocked 0 faults 0 sweep 1
 clock 0
@@ -46,6 +46,12 @@ static SHAPES: [(&[&str], u8, u16, &str, usize, &str); 5] = [
     (&["save", "image=a", "out=b", "pages=65"], 1, 65, OF_65_PAGES, 1_315_216, "ok vcpus 1 blocks 1 pages 65\n"),
 ];
 
+/// Whether the file of a machine has this length, and a check of it prints this line.
+fn is_laid_out(alloc: Global, instant: &Snapshot, len: usize, ok: &str) -> Result<bool, Fail> {
+    let file = file_of(alloc, instant)?;
+    Ok(file.len() == len && checked(alloc, &file, 0, ok)?.is_none())
+}
+
 #[test]
 fn machines_of_each_shape_have_their_layout(rt: HostRuntime) -> Result<(), Fail> {
     let alloc = rt.alloc();
@@ -55,38 +61,46 @@ fn machines_of_each_shape_have_their_layout(rt: HostRuntime) -> Result<(), Fail>
             pages,
             ..SMALLEST
         };
-        let row = Row {
+        let save = Save {
             words,
             image: &GUEST,
             report,
             first: &[],
             second: &[],
             instant,
+            restored: &[],
         };
-        let done = assert_saved(&rt, alloc, &row)?;
-        let file = done.files.output.bytes();
-        assert_eq!(rt; file.len(), len);
-        let mut files = Files::with_room(alloc, 0)?;
-        files.input = full_file(alloc, file, well(alloc))?;
-        let checked = serve(alloc, &["check", "in=b"], files)?;
-        assert_eq!(rt; checked.end(), (0, None, ok));
+        assert_eq!(rt; saved(alloc, &save)?, None, "{ok}");
+        assert!(rt; is_laid_out(alloc, &instant, len, ok)?, "{ok}");
     }
     Ok(())
 }
 
+const RESTORED: &str = "clock 0
+cpu 0 running pc 0000000080000000 steps 0
+serial 0 lost 0
+timer 0000000000000000
+ram pages 2 nonzero 1 sum 0000007300100293
+";
+
 #[test]
 fn a_bit_of_a_page_of_zeros_or_of_no_page_changes_nothing(rt: HostRuntime) -> Result<(), Fail> {
     let alloc = rt.alloc();
-    let done = save(alloc, &["save", "image=a", "out=b", "pages=2"], &GUEST)?;
-    let expected = restored(alloc, done.files.output.bytes(), "run=0")?;
-    assert_eq!(rt; expected.answer.status, 0);
-    for bits in [3, 5] {
-        let mut file = done.files.output.bytes().to_vec(alloc)?;
+    let two_pages = Snapshot {
+        pages: 2,
+        ..SMALLEST
+    };
+    let mut file = file_of(alloc, &two_pages)?;
+    for bits in [1, 3, 5] {
         for byte in file.iter_mut().skip(88).take(1) {
             *byte = bits;
         }
-        let again = restored(alloc, &file, "run=0")?;
-        assert_eq!(rt; again.end(), (0, None, expected.printed()));
+        let found = all_restored(
+            alloc,
+            &file,
+            &[(&["restore", "in=a", "run=0"], RESTORED, &[])],
+        )?;
+        assert_eq!(rt; found, None, "bits {bits}");
     }
     Ok(())
 }

@@ -1,7 +1,8 @@
-use crate::row::{Row, assert_saved, behind_first_line, restored, save};
-use snapshot_by_hand::{AT_BOOT, Cpu, SMALLEST, Snapshot};
+use crate::row::{Restored, Save, all_restored, behind_first_line, saved, saved_of};
+use snapshot_by_hand::{AT_BOOT, Cpu, SMALLEST, Snapshot, file_of};
+use std::alloc::Global;
 use std::test::Fail;
-use test_lines::{Files, empty_file, failing_from, image, serve, well};
+use test_lines::{Fails, LINE, Line, answer};
 
 /// auipc x5, 1 and sd x5, 0(x5): it stores into page 1.
 pub(crate) const STORES: [u8; 8] = [0x97, 0x12, 0, 0, 0x23, 0xb0, 0x52, 0];
@@ -10,7 +11,7 @@ pub(crate) const STORES: [u8; 8] = [0x97, 0x12, 0, 0, 0x23, 0xb0, 0x52, 0];
 const TOGETHER: [u8; 8] = [0x97, 0x12, 0, 0, 0x23, 0xb0, 0xa2, 0];
 
 /// The guest that stores at boot, in two pages of which the second is zeros.
-const STORES_AT_BOOT: Snapshot<'static> = Snapshot {
+pub(crate) const STORES_AT_BOOT: Snapshot<'static> = Snapshot {
     pages: 2,
     saved: &[(0, &STORES)],
     ..SMALLEST
@@ -50,31 +51,39 @@ timer 0000000000000000
 ram pages 2 nonzero 1 sum 0052b02300001297
 ";
 
+/// The save of the guest that stores.
+const STORED: Save = Save {
+    words: &["save", "image=a", "out=b", "pages=2", "run=2"],
+    image: &STORES,
+    report: STORED_AFTER_THE_SWEEP,
+    first: &[],
+    second: &[0, 0, 0],
+    instant: STORES_AT_BOOT,
+    restored: &[(&["restore", "in=a", "run=0"], AT_THE_INSTANT, &[])],
+};
+
+/// The word of the turns, and the report.
+static TURNS: [(&str, &str); 6] = [
+    ("turns=000s0", STORED_AFTER_ITS_FAULT),
+    ("turns=ss000", STORED_AFTER_THE_SWEEP),
+    ("turns=", STORED_AFTER_THE_SWEEP),
+    ("seed=0", STORED_AFTER_THE_SWEEP),
+    ("seed=2", STORED_BY_DRAWN_TURNS),
+    ("seed=18446744073709551615", STORED_AFTER_THE_SWEEP),
+];
+
 #[test]
 fn a_store_waits_for_the_saver_and_the_file_has_the_instant(rt: HostRuntime) -> Result<(), Fail> {
     let alloc = rt.alloc();
-    for (turns, report) in [
-        ("turns=000s0", STORED_AFTER_ITS_FAULT),
-        ("turns=ss000", STORED_AFTER_THE_SWEEP),
-        ("turns=", STORED_AFTER_THE_SWEEP),
-        ("seed=0", STORED_AFTER_THE_SWEEP),
-        ("seed=2", STORED_BY_DRAWN_TURNS),
-        ("seed=18446744073709551615", STORED_AFTER_THE_SWEEP),
-    ] {
-        let done = assert_saved(
-            &rt,
-            alloc,
-            &Row {
-                words: &["save", "image=a", "out=b", "pages=2", "run=2", turns],
-                image: &STORES,
-                report,
-                first: &[],
-                second: &[0, 0, 0],
-                instant: STORES_AT_BOOT,
-            },
-        )?;
-        let again = restored(alloc, done.files.output.bytes(), "run=0")?;
-        assert_eq!(rt; again.end(), (0, None, AT_THE_INSTANT));
+    let file = file_of(alloc, &STORES_AT_BOOT)?;
+    for &(turns, report) in &TURNS {
+        let save = Save { report, ..STORED };
+        let words = ["save", "image=a", "out=b", "pages=2", "run=2", turns];
+        assert_eq!(rt;
+            saved_of(alloc, &save, &words, &STORES, &file)?,
+            None,
+            "{turns}"
+        );
     }
     Ok(())
 }
@@ -120,70 +129,82 @@ timer 0000000000000000
 ram pages 2 nonzero 2 sum 0075e3a6020349d3
 ";
 
+/// A store over the vCPU's own next instruction, and one of the time.
+#[rattlefmt::skip]
+static MADE_ONCE: [Save; 2] = [
+    Save {
+        words: &["save", "image=a", "out=b", "pages=1", "run=3", "turns=000s00"],
+        image: &CLEARS_ITSELF,
+        report: CLEARED,
+        first: &[],
+        second: &[0; 4],
+        instant: Snapshot {
+            saved: &[(0, &CLEARS_ITSELF)],
+            ..SMALLEST
+        },
+        restored: &[],
+    },
+    Save {
+        words: &["save", "image=a", "out=b", "pages=2", "run=5", "turns=000000s000"],
+        image: &STORES_TIME,
+        report: TIME_STORED,
+        first: &[],
+        second: &[0; 8],
+        instant: Snapshot {
+            pages: 2,
+            saved: &[(0, &STORES_TIME)],
+            ..SMALLEST
+        },
+        restored: &[],
+    },
+];
+
 #[test]
 fn a_stopped_store_is_made_once_and_costs_no_time(rt: HostRuntime) -> Result<(), Fail> {
-    let alloc = rt.alloc();
-    let mut two_pages = [0; 4097];
-    two_pages[..8].copy_from_slice(&CLEARS_A_PAGE);
-    two_pages[4096] = 0xaa;
-    for row in [
-        Row {
-            words: &[
-                "save",
-                "image=a",
-                "out=b",
-                "pages=1",
-                "run=3",
-                "turns=000s00",
-            ],
-            image: &CLEARS_ITSELF,
-            report: CLEARED,
-            first: &[],
-            second: &[0; 4],
-            instant: Snapshot {
-                saved: &[(0, &CLEARS_ITSELF)],
-                ..SMALLEST
-            },
-        },
-        Row {
-            words: &[
-                "save",
-                "image=a",
-                "out=b",
-                "pages=2",
-                "run=2",
-                "turns=000s0",
-            ],
-            image: &two_pages,
-            report: PAGE_CLEARED,
-            first: &[],
-            second: &[0; 3],
-            instant: Snapshot {
-                saved: &[(0, &CLEARS_A_PAGE), (1, &[0xaa])],
-                ..STORES_AT_BOOT
-            },
-        },
-        Row {
-            words: &[
-                "save",
-                "image=a",
-                "out=b",
-                "pages=2",
-                "run=5",
-                "turns=000000s000",
-            ],
-            image: &STORES_TIME,
-            report: TIME_STORED,
-            first: &[],
-            second: &[0; 8],
-            instant: Snapshot {
-                saved: &[(0, &STORES_TIME)],
-                ..STORES_AT_BOOT
-            },
-        },
-    ] {
-        assert_saved(&rt, alloc, &row)?;
+    for save in &MADE_ONCE {
+        assert_eq!(rt; saved(rt.alloc(), save)?, None);
     }
+    Ok(())
+}
+
+/// The image of the guest that clears a page, and a byte in that page.
+fn with_a_byte() -> [u8; 4097] {
+    let mut image = [0; 4097];
+    image[..8].copy_from_slice(&CLEARS_A_PAGE);
+    image[4096] = 0xaa;
+    image
+}
+
+/// The save of the guest that clears a page.
+const CLEARING: Save = Save {
+    words: &[
+        "save",
+        "image=a",
+        "out=b",
+        "pages=2",
+        "run=2",
+        "turns=000s0",
+    ],
+    image: &CLEARS_A_PAGE,
+    report: PAGE_CLEARED,
+    first: &[],
+    second: &[0; 3],
+    instant: Snapshot {
+        pages: 2,
+        saved: &[(0, &CLEARS_A_PAGE), (1, &[0xaa])],
+        ..SMALLEST
+    },
+    restored: &[],
+};
+
+#[test]
+fn a_page_that_was_cleared_behind_its_copy_has_its_byte_in_the_file(
+    rt: HostRuntime,
+) -> Result<(), Fail> {
+    let alloc = rt.alloc();
+    let file = file_of(alloc, &CLEARING.instant)?;
+    let found = saved_of(alloc, &CLEARING, CLEARING.words, &with_a_byte(), &file)?;
+    assert_eq!(rt; found, None);
     Ok(())
 }
 
@@ -247,93 +268,98 @@ timer 0000000000000000
 ram pages 2 nonzero 2 sum 00a2b0230000129e
 ";
 
-/// The vCPU with this number at boot: x10 has it.
-fn at_boot(number: u64) -> Cpu<'static> {
+/// Eight vCPUs at boot, each with its number in x10.
+const EIGHT_AT_BOOT: [Cpu<'static>; 8] = [
+    AT_BOOT,
     Cpu {
-        regs: match number {
-            0 => &[],
-            1 => &[(10, 1)],
-            2 => &[(10, 2)],
-            3 => &[(10, 3)],
-            4 => &[(10, 4)],
-            5 => &[(10, 5)],
-            6 => &[(10, 6)],
-            _ => &[(10, 7)],
-        },
+        regs: &[(10, 1)],
         ..AT_BOOT
-    }
-}
+    },
+    Cpu {
+        regs: &[(10, 2)],
+        ..AT_BOOT
+    },
+    Cpu {
+        regs: &[(10, 3)],
+        ..AT_BOOT
+    },
+    Cpu {
+        regs: &[(10, 4)],
+        ..AT_BOOT
+    },
+    Cpu {
+        regs: &[(10, 5)],
+        ..AT_BOOT
+    },
+    Cpu {
+        regs: &[(10, 6)],
+        ..AT_BOOT
+    },
+    Cpu {
+        regs: &[(10, 7)],
+        ..AT_BOOT
+    },
+];
+
+const TWO_AT_BOOT: [Cpu<'static>; 2] = [
+    AT_BOOT,
+    Cpu {
+        regs: &[(10, 1)],
+        ..AT_BOOT
+    },
+];
+
+/// Two and eight vCPUs that store to one page, and two that add to one word of it.
+#[rattlefmt::skip]
+static TOGETHER_ON_A_PAGE: [Save; 3] = [
+    Save {
+        words: &["save", "image=a", "out=b", "vcpus=2", "pages=2", "run=2", "turns=001101s01"],
+        image: &TOGETHER,
+        report: BOTH_STORED,
+        first: &[],
+        second: &[0, 0, 1, 1, 0, 1],
+        instant: Snapshot {
+            pages: 2,
+            saved: &[(0, &TOGETHER)],
+            cpus: &TWO_AT_BOOT,
+            ..SMALLEST
+        },
+        restored: &[],
+    },
+    Save {
+        words: &["save", "image=a", "out=b", "vcpus=2", "pages=2", "run=3", "turns=00001111s01"],
+        image: &ADDS,
+        report: BOTH_ADDED,
+        first: &[],
+        second: &[0, 0, 0, 1, 1, 1, 0, 1],
+        instant: Snapshot {
+            pages: 2,
+            saved: &[(0, &ADDS)],
+            cpus: &TWO_AT_BOOT,
+            ..SMALLEST
+        },
+        restored: &[],
+    },
+    Save {
+        words: &["save", "image=a", "out=b", "vcpus=8", "pages=2", "run=2", "turns=01234567012345670123456701234567s"],
+        image: &TOGETHER,
+        report: EIGHT_STORED,
+        first: &[],
+        second: &[0, 1, 2, 3, 4, 5, 6, 7, 0, 1, 2, 3, 4, 5, 6, 7, 0, 1, 2, 3, 4, 5, 6, 7],
+        instant: Snapshot {
+            pages: 2,
+            saved: &[(0, &TOGETHER)],
+            cpus: &EIGHT_AT_BOOT,
+            ..SMALLEST
+        },
+        restored: &[],
+    },
+];
 
 #[test]
 fn vcpus_that_wait_for_one_page_queue_it_once(rt: HostRuntime) -> Result<(), Fail> {
-    let alloc = rt.alloc();
-    let two_at_boot = [0, 1].map(at_boot);
-    let eight_at_boot = [0, 1, 2, 3, 4, 5, 6, 7].map(at_boot);
-    for row in [
-        Row {
-            words: &[
-                "save",
-                "image=a",
-                "out=b",
-                "vcpus=2",
-                "pages=2",
-                "run=2",
-                "turns=001101s01",
-            ],
-            image: &TOGETHER,
-            report: BOTH_STORED,
-            first: &[],
-            second: &[0, 0, 1, 1, 0, 1],
-            instant: Snapshot {
-                saved: &[(0, &TOGETHER)],
-                cpus: &two_at_boot,
-                ..STORES_AT_BOOT
-            },
-        },
-        Row {
-            words: &[
-                "save",
-                "image=a",
-                "out=b",
-                "vcpus=2",
-                "pages=2",
-                "run=3",
-                "turns=00001111s01",
-            ],
-            image: &ADDS,
-            report: BOTH_ADDED,
-            first: &[],
-            second: &[0, 0, 0, 1, 1, 1, 0, 1],
-            instant: Snapshot {
-                saved: &[(0, &ADDS)],
-                cpus: &two_at_boot,
-                ..STORES_AT_BOOT
-            },
-        },
-        Row {
-            words: &[
-                "save",
-                "image=a",
-                "out=b",
-                "vcpus=8",
-                "pages=2",
-                "run=2",
-                "turns=01234567012345670123456701234567s",
-            ],
-            image: &TOGETHER,
-            report: EIGHT_STORED,
-            first: &[],
-            second: &[
-                0, 1, 2, 3, 4, 5, 6, 7, 0, 1, 2, 3, 4, 5, 6, 7, 0, 1, 2, 3, 4, 5, 6, 7,
-            ],
-            instant: Snapshot {
-                saved: &[(0, &TOGETHER)],
-                cpus: &eight_at_boot,
-                ..STORES_AT_BOOT
-            },
-        },
-    ] {
-        assert_saved(&rt, alloc, &row)?;
+    for save in &TOGETHER_ON_A_PAGE {
+        assert_eq!(rt; saved(rt.alloc(), save)?, None);
     }
     Ok(())
 }
@@ -380,19 +406,32 @@ fn is_written(file: &[u8], at: usize) -> bool {
     file.get(at).is_some_and(|byte| *byte != 0)
 }
 
+/// Which of the two pages are in the file where each call on it fails from this one on, if the save ends with this status and
+/// this line.
+fn cut_at(alloc: Global, call: u64, status: u8, line: &str) -> Result<Option<(bool, bool)>, Fail> {
+    let done = answer(
+        alloc,
+        &Line {
+            words: &FAULTS,
+            image: &apart(),
+            output_fails: Fails::From(call),
+            ..LINE
+        },
+    )?;
+    if done.answer.status != status || !done.printed().starts_with(line) {
+        return Ok(None);
+    }
+    let file = done.written();
+    Ok(Some((
+        is_written(file, FIRST_PAGE_AT),
+        is_written(file, SECOND_PAGE_AT),
+    )))
+}
+
 #[test]
 fn pages_are_saved_in_the_order_of_their_faults(rt: HostRuntime) -> Result<(), Fail> {
-    let alloc = rt.alloc();
     for &(call, line, first, second) in &CUT_AT {
-        let mut files = Files::with_room(alloc, 0)?;
-        files.image = image(alloc, &apart(), well(alloc))?;
-        files.output = empty_file(alloc, 1_100_000, failing_from(alloc, call))?;
-        let done = serve(alloc, &FAULTS, files)?;
-        assert_eq!(rt; done.answer.status, 4);
-        assert!(rt; done.printed().starts_with(line));
-        let file = done.files.output.bytes();
-        assert_eq!(rt; is_written(file, FIRST_PAGE_AT), first);
-        assert_eq!(rt; is_written(file, SECOND_PAGE_AT), second);
+        assert!(rt; cut_at(rt.alloc(), call, 4, line)? == Some((first, second)));
     }
     Ok(())
 }
@@ -408,17 +447,38 @@ const ALL_FAULT: [&str; 7] = [
     "turns=0123456701234567012345670123456701234567sssssssss",
 ];
 
+/// The order of five events of each of eight vCPUs: four fetches and a store.
+const FIVE_ROUNDS: [u8; 40] = [
+    0, 1, 2, 3, 4, 5, 6, 7, 0, 1, 2, 3, 4, 5, 6, 7, 0, 1, 2, 3, 4, 5, 6, 7, 0, 1, 2, 3, 4, 5, 6, 7,
+    0, 1, 2, 3, 4, 5, 6, 7,
+];
+
+/// Whether the save prints what it has to, and a restore of its file the same report.
+fn all_eight_are_saved(alloc: Global) -> Result<bool, Fail> {
+    let done = answer(
+        alloc,
+        &Line {
+            words: &ALL_FAULT,
+            image: &APART,
+            ..LINE
+        },
+    )?;
+    let printed = done.printed();
+    let again: Restored = (
+        &["restore", "in=a", "run=4"],
+        behind_first_line(printed),
+        FIVE_ROUNDS.as_slice(),
+    );
+    Ok(
+        done.answer.status == 0
+            && printed.starts_with("save complete blocked 8 faults 8 sweep 1\nclock 40\n")
+            && printed.contains("\nram pages 9 nonzero 9 sum ")
+            && all_restored(alloc, done.written(), &[again])?.is_none(),
+    )
+}
+
 #[test]
 fn eight_vcpus_may_wait_for_eight_pages(rt: HostRuntime) -> Result<(), Fail> {
-    let alloc = rt.alloc();
-    let done = save(alloc, &ALL_FAULT, &APART)?;
-    assert_eq!(rt; done.answer.status, 0);
-    assert!(rt;
-        done.printed()
-            .starts_with("save complete blocked 8 faults 8 sweep 1\nclock 40\n")
-    );
-    assert!(rt; done.printed().contains("\nram pages 9 nonzero 9 sum "));
-    let again = restored(alloc, done.files.output.bytes(), "run=4")?;
-    assert_eq!(rt; again.printed(), behind_first_line(done.printed()));
+    assert!(rt; all_eight_are_saved(rt.alloc())?);
     Ok(())
 }

@@ -1,46 +1,90 @@
 use snapshot_by_hand::{Snapshot, file_of};
 use std::alloc::Global;
-use std::process::Abort;
 use std::test::Fail;
-use test_lines::{Files, Outcome, full_file, image, is_order, serve, well};
+use test_lines::{Differs, LINE, Line, READER, difference};
 
-/// How many bytes an output has room for.
-const ROOM: u64 = 2_200_000;
+/// A restore of the file: its words, what it prints, and the members of its order.
+pub(crate) type Restored<'a> = (&'a [&'static str], &'a str, &'a [u8]);
 
-/// A save that ends well: its words, its image, what it prints, the orders of its two phases, and the machine at the instant.
+/// A save that ends well: its words, its image, what it prints, the members of the orders of its two phases, the machine at the
+/// instant, and restores of its file.
 #[derive(Clone, Copy)]
-pub(crate) struct Row<'a> {
-    pub(crate) words: &'a [&'a str],
-    pub(crate) image: &'a [u8],
-    pub(crate) report: &'a str,
-    pub(crate) first: &'a [u8],
-    pub(crate) second: &'a [u8],
-    pub(crate) instant: Snapshot<'a>,
+pub(crate) struct Save {
+    pub(crate) words: &'static [&'static str],
+    pub(crate) image: &'static [u8],
+    pub(crate) report: &'static str,
+    pub(crate) first: &'static [u8],
+    pub(crate) second: &'static [u8],
+    pub(crate) instant: Snapshot<'static>,
+    pub(crate) restored: &'static [Restored<'static>],
 }
 
-/// The answer to the words over an image.
-pub(crate) fn save(alloc: Global, words: &[&str], bytes: &[u8]) -> Result<Outcome, Fail> {
-    let mut files = Files::with_room(alloc, ROOM)?;
-    files.image = image(alloc, bytes, well(alloc))?;
-    Ok(serve(alloc, words, files)?)
+/// In what a save or a restore of its file differs from what is wanted, if in anything.
+pub(crate) fn saved(alloc: Global, save: &Save) -> Result<Option<Differs>, Fail> {
+    let file = file_of(alloc, &save.instant)?;
+    saved_of(alloc, save, save.words, save.image, &file)
 }
 
-/// What a restore of a file prints, by its word of the instructions.
-pub(crate) fn restored(alloc: Global, file: &[u8], run: &str) -> Result<Outcome, Fail> {
-    let mut files = Files::with_room(alloc, 0)?;
-    files.input = full_file(alloc, file, well(alloc))?;
-    Ok(serve(alloc, &["restore", "in=a", run], files)?)
+/// The same with these words over this image, into this file.
+pub(crate) fn saved_of<'a>(
+    alloc: Global,
+    save: &Save,
+    words: &'a [&'static str],
+    image: &'a [u8],
+    file: &'a [u8],
+) -> Result<Option<Differs>, Fail> {
+    let line = Line {
+        words,
+        image,
+        printed: save.report,
+        first: save.first,
+        second: save.second,
+        written: file,
+        ..LINE
+    };
+    match difference(alloc, &line)? {
+        None => all_restored(alloc, file, save.restored),
+        found => Ok(found),
+    }
 }
 
-/// Asserts that a save does what its row says, and answers it.
-pub(crate) fn assert_saved<R: Abort>(rt: &R, alloc: Global, row: &Row) -> Result<Outcome, Fail> {
-    let done = save(alloc, row.words, row.image)?;
-    assert_eq!(rt; done.end(), (0, None, row.report));
-    assert!(rt; is_order(&done.answer.first, row.first));
-    assert!(rt; is_order(&done.answer.second, row.second));
-    let file = file_of(alloc, &row.instant)?;
-    assert!(rt; done.files.output.bytes() == file.as_slice());
-    Ok(done)
+/// In what the first of some restores of a file that differs does so, if any.
+pub(crate) fn all_restored<'a>(
+    alloc: Global,
+    file: &'a [u8],
+    restored: &[Restored<'a>],
+) -> Result<Option<Differs>, Fail> {
+    for (words, printed, first) in restored {
+        let line = Line {
+            words,
+            input: file,
+            printed,
+            first,
+            ..READER
+        };
+        let found = difference(alloc, &line)?;
+        if found.is_some() {
+            return Ok(found);
+        }
+    }
+    Ok(None)
+}
+
+/// In what a check of a file differs from the status and the line that are wanted, if in anything.
+pub(crate) fn checked<'a>(
+    alloc: Global,
+    file: &'a [u8],
+    status: u8,
+    printed: &'a str,
+) -> Result<Option<Differs>, Fail> {
+    let line = Line {
+        words: &["check", "in=b"],
+        input: file,
+        status,
+        printed,
+        ..READER
+    };
+    Ok(difference(alloc, &line)?)
 }
 
 /// A report from its second line on.

@@ -1,8 +1,7 @@
 use crate::row::behind_first_line;
 use std::alloc::Global;
 use std::test::Fail;
-use test_lines::{Files, Outcome, empty_file, failing, serve, well};
-use vm_cli::Fault;
+use test_lines::{Fails, LINE, Line, answer};
 
 /// How many bytes the file of the workload has, and how many an output has room for.
 const FILE: usize = 4_195_565;
@@ -39,45 +38,43 @@ ram pages 512 nonzero 512 sum e5c66986fa6e7baf
 
 const OK: &str = "ok vcpus 4 blocks 2 pages 256\n";
 
-/// The answer to a workload over an output in which one call fails, if any.
-fn workload(alloc: Global, failing_call: Option<u64>) -> Result<Outcome, Fail> {
-    let mut files = Files::with_room(alloc, 0)?;
-    let plan = match failing_call {
-        Some(call) => failing(alloc, call)?,
-        None => well(alloc),
-    };
-    files.output = empty_file(alloc, ROOM, plan)?;
-    Ok(serve(alloc, &["workload", "out=a"], files)?)
+/// How many bytes the file of a workload has, where it ends with this status, the orders of both phases, and its report before
+/// this line.
+fn workload(
+    alloc: Global,
+    output_fails: Fails,
+    status: u8,
+    line: &str,
+) -> Result<Option<usize>, Fail> {
+    let done = answer(
+        alloc,
+        &Line {
+            words: &["workload", "out=a"],
+            room: ROOM,
+            output_fails,
+            ..LINE
+        },
+    )?;
+    let is_so = done.answer.status == status
+        && behind_first_line(done.printed()).strip_suffix(line) == Some(RAN)
+        && saved_pages(done.printed()) == Some(512)
+        && done.answer.first.count() == 556
+        && done.answer.second.count() == 2800;
+    Ok(is_so.then_some(done.written().len()))
 }
 
 #[test]
 fn the_workload_is_saved_reported_and_checked(rt: HostRuntime) -> Result<(), Fail> {
-    let alloc = rt.alloc();
-    let done = workload(alloc, None)?;
-    assert_eq!(rt; (done.answer.status, done.answer.fault), (0, None));
-    let report = behind_first_line(done.printed());
-    assert_eq!(rt; report.strip_suffix(OK), Some(RAN));
-    assert_eq!(rt; saved_pages(done.printed()), Some(512));
-    assert_eq!(rt;
-        (done.answer.first.count(), done.answer.second.count()),
-        (556, 2800)
-    );
-    assert_eq!(rt; done.files.output.bytes().len(), FILE);
+    let len = workload(rt.alloc(), Fails::Never, 0, OK)?;
+    assert_eq!(rt; len, Some(FILE));
     Ok(())
 }
 
 #[test]
 fn a_workload_reads_its_file(rt: HostRuntime) -> Result<(), Fail> {
-    let alloc = rt.alloc();
     // A call for the length, two for the gate, one for each page, two heads, the tail, and three for the gate: the next reads.
-    let done = workload(alloc, Some(522))?;
-    assert_eq!(rt;
-        (done.answer.status, done.answer.fault),
-        (4, Some(Fault::FileFault))
-    );
-    let report = behind_first_line(done.printed());
-    assert_eq!(rt; report.strip_suffix("fault 4 file-fault\n"), Some(RAN));
-    assert_eq!(rt; done.answer.second.count(), 2800);
+    let len = workload(rt.alloc(), Fails::At(522), 4, "fault 4 file-fault\n")?;
+    assert_eq!(rt; len, Some(FILE));
     Ok(())
 }
 

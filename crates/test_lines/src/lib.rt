@@ -1,11 +1,13 @@
-//! What the tests of whole lines share: lines of words over files in memory, and calls that fail by plan. No part of the
-//! program stands on it.
+//! What the tests of whole lines share: a line of words over files in memory, whose calls fail by plan, and how it has to end.
+//! No part of the program stands on it.
 #![tactic(auto)]
 
-mod lines;
+mod compare;
+mod files;
+mod line;
 mod orders;
-mod plans;
 
-pub use lines::{End, Files, Outcome, console, empty_file, full_file, image, serve, words};
+pub use compare::{Differs, answer_difference, difference, difference_of};
+pub use files::{Fails, Files, Outcome, words};
+pub use line::{LINE, Line, READER, answer, work_on};
 pub use orders::is_order;
-pub use plans::{failing, failing_from, well};

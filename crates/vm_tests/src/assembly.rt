@@ -1,14 +1,16 @@
-use crate::jobs::{empty_output, image, serve, serve_in_threads, serve_on};
+use crate::jobs::difference_in_threads;
 use guest_asm::AsmKind;
 use image_file::ImageRefusal;
-use medium::{FailPlan, MemMedium, MemSink, MemSource};
 use std::alloc::Global;
 use std::test::Fail;
-use test_lines::{Outcome, failing, failing_from, full_file, well};
+use test_lines::{Differs, Fails, LINE, Line, Outcome, answer, difference};
 use vm_cli::Fault;
 
 /// The line of an assembly.
-const ASM: [&str; 3] = ["asm", "image=guest.s", "out=guest.img"];
+const ASM: Line<'static> = Line {
+    words: &["asm", "image=guest.s", "out=guest.img"],
+    ..LINE
+};
 
 /// A guest of one instruction, and its word.
 const ECALL: &str = "ecall\n";
@@ -37,44 +39,36 @@ const LOOP_WORDS: [u8; 28] = [
     0x6f, 0xf0, 0x5f, 0xff,
 ];
 
+/// A text, its bytes, and what is printed.
+static TEXTS: [(&str, &[u8], &str); 3] = [
+    (ECALL, &ECALL_WORD, "assembled 4 bytes\n"),
+    (LOOP, &LOOP_WORDS, "assembled 28 bytes\n"),
+    (".zero 100", &[0; 100], "assembled 100 bytes\n"),
+];
+
 #[test]
 fn a_text_is_assembled_to_its_bytes(rt: HostRuntime) -> Result<(), Fail> {
-    let alloc = rt.alloc();
-    for (text, bytes, printed) in [
-        (ECALL, ECALL_WORD.as_slice(), "assembled 4 bytes\n"),
-        (LOOP, LOOP_WORDS.as_slice(), "assembled 28 bytes\n"),
-        (".zero 100", [0; 100].as_slice(), "assembled 100 bytes\n"),
-    ] {
-        let output = empty_output(alloc, well(alloc))?;
-        let done = serve(alloc, &ASM, image(alloc, text.as_bytes())?, output)?;
-        assert_eq!(rt; done.end(), (0, None, printed));
-        assert_eq!(rt; done.answer.first.count(), 0);
-        assert_eq!(rt; done.answer.second.count(), 0);
-        assert_eq!(rt; done.files.output.bytes(), bytes);
-        assert_eq!(rt; done.files.output.unsynced(), 0);
+    for &(text, written, printed) in &TEXTS {
+        let line = Line {
+            image: text.as_bytes(),
+            printed,
+            written,
+            ..ASM
+        };
+        assert_eq!(rt; difference(rt.alloc(), &line)?, None, "{printed}");
     }
     Ok(())
 }
 
 #[test]
 fn the_call_with_threads_assembles_to_the_same_bytes(rt: HostRuntime) -> Result<(), Fail> {
-    let alloc = rt.alloc();
-    let text = image(alloc, LOOP.as_bytes())?;
-    let done = serve_in_threads(&rt, alloc, &ASM, text)?;
-    assert_eq!(rt; done.end(), (0, None, "assembled 28 bytes\n"));
-    assert_eq!(rt; done.files.output.bytes(), LOOP_WORDS.as_slice());
-    assert_eq!(rt; done.files.output.unsynced(), 0);
-    Ok(())
-}
-
-#[test]
-fn an_empty_text_is_synced_without_a_write(rt: HostRuntime) -> Result<(), Fail> {
-    let alloc = rt.alloc();
-    // Every write is past the limit of this file.
-    let output = MemMedium::new(alloc, Vec::new(alloc), 16, 0, well(alloc))?;
-    let done = serve(alloc, &ASM, image(alloc, b"")?, output)?;
-    assert_eq!(rt; done.end(), (0, None, "assembled 0 bytes\n"));
-    assert_eq!(rt; done.files.output.bytes(), [].as_slice());
+    let line = Line {
+        image: LOOP.as_bytes(),
+        printed: "assembled 28 bytes\n",
+        written: &LOOP_WORDS,
+        ..ASM
+    };
+    assert_eq!(rt; difference_in_threads(&rt, rt.alloc(), &line)?, None);
     Ok(())
 }
 
@@ -94,13 +88,16 @@ static WRONG_TEXTS: [(&str, u32, AsmKind, &str); 9] = [
 
 #[test]
 fn the_first_wrong_line_is_named_before_the_output(rt: HostRuntime) -> Result<(), Fail> {
-    let alloc = rt.alloc();
     for &(text, line, kind, printed) in &WRONG_TEXTS {
-        let output = empty_output(alloc, failing_from(alloc, 1))?;
-        let done = serve(alloc, &ASM, image(alloc, text.as_bytes())?, output)?;
-        let fault = Fault::AsmRefused { line, kind };
-        assert_eq!(rt; done.end(), (9, Some(fault), printed));
-        assert_eq!(rt; done.files.output.bytes(), [].as_slice());
+        let line = Line {
+            image: text.as_bytes(),
+            output_fails: Fails::From(1),
+            status: 9,
+            fault: Some(Fault::AsmRefused { line, kind }),
+            printed,
+            ..ASM
+        };
+        assert_eq!(rt; difference(rt.alloc(), &line)?, None, "{printed}");
     }
     Ok(())
 }
@@ -110,69 +107,94 @@ fn a_text_may_have_1_048_576_bytes(rt: HostRuntime) -> Result<(), Fail> {
     let alloc = rt.alloc();
     for byte in [b' ', b'\n'] {
         let long = vec![in alloc; byte; 1_048_577]?;
-        let whole = long.get(..1_048_576).unwrap_or(&[]);
-        let output = empty_output(alloc, well(alloc))?;
-        let done = serve(alloc, &ASM, image(alloc, whole)?, output)?;
-        assert_eq!(rt; done.end(), (0, None, "assembled 0 bytes\n"));
-
-        let output = empty_output(alloc, failing_from(alloc, 1))?;
-        let done = serve(alloc, &ASM, image(alloc, &long)?, output)?;
-        let fault = Fault::ImageRefused(ImageRefusal::TooLong(1_048_577));
-        let line = "fault 2 image too-long 1048577\n";
-        assert_eq!(rt; done.end(), (2, Some(fault), line));
+        let line = Line {
+            image: long.get(..1_048_576).unwrap_or(&[]),
+            printed: "assembled 0 bytes\n",
+            ..ASM
+        };
+        assert_eq!(rt; difference(alloc, &line)?, None);
+        let line = Line {
+            image: &long,
+            output_fails: Fails::From(1),
+            status: 2,
+            fault: Some(Fault::ImageRefused(ImageRefusal::TooLong(1_048_577))),
+            printed: "fault 2 image too-long 1048577\n",
+            ..ASM
+        };
+        assert_eq!(rt; difference(alloc, &line)?, None);
     }
     Ok(())
 }
 
+/// A text, which of the calls on the output fail, and whether the assembly does. The calls are: len, write, sync; without the
+/// write where there is no byte.
+#[rattlefmt::skip]
+static CALLS: [(&str, Fails, bool); 7] = [
+    (ECALL, Fails::At(1), true),
+    (ECALL, Fails::At(2), true),
+    (ECALL, Fails::At(3), true),
+    (ECALL, Fails::From(4), false),
+    ("", Fails::At(1), true),
+    ("", Fails::At(2), true),
+    ("", Fails::From(3), false),
+];
+
 #[test]
 fn each_call_on_the_output_may_fail(rt: HostRuntime) -> Result<(), Fail> {
-    let alloc = rt.alloc();
-    let failed = (4, Some(Fault::FileFault), "fault 4 file-fault\n");
-    // The calls are: len, write, sync; without the write where there is no byte.
-    for (text, last) in [(ECALL, 3u64), ("", 2)] {
-        for call in 1..=last {
-            let output = empty_output(alloc, failing(alloc, call)?)?;
-            let done = serve(alloc, &ASM, image(alloc, text.as_bytes())?, output)?;
-            assert_eq!(rt; done.end(), failed, "call {call} of {text}");
-        }
-        let output = empty_output(alloc, failing_from(alloc, last.saturating_add(1)))?;
-        let done = serve(alloc, &ASM, image(alloc, text.as_bytes())?, output)?;
-        assert_eq!(rt; done.answer.status, 0);
+    for &(text, output_fails, fails) in &CALLS {
+        let line = Line {
+            image: text.as_bytes(),
+            output_fails,
+            ..ASM
+        };
+        assert_eq!(rt; fails_by_its_file(rt.alloc(), &line)?, Some(fails));
     }
     Ok(())
+}
+
+/// Whether a line ends with a fault of its file, if it ends with that or well.
+fn fails_by_its_file(alloc: Global, line: &Line) -> Result<Option<bool>, Fail> {
+    let done = answer(alloc, line)?;
+    Ok(match (done.answer.fault, done.answer.status) {
+        (None, 0) => Some(false),
+        (Some(Fault::FileFault), 4) if done.printed() == "fault 4 file-fault\n" => Some(true),
+        _ => None,
+    })
 }
 
 #[test]
 fn each_read_of_the_text_may_fail(rt: HostRuntime) -> Result<(), Fail> {
-    let alloc = rt.alloc();
-    let failed = (6, Some(Fault::ImageFault), "fault 6 image-fault\n");
     for call in 1..=2 {
-        let text = MemSource::new(ECALL.as_bytes().to_vec(alloc)?, failing(alloc, call)?);
-        let output = empty_output(alloc, failing_from(alloc, 1))?;
-        let done = serve(alloc, &ASM, text, output)?;
-        assert_eq!(rt; done.end(), failed, "read {call}");
+        let line = Line {
+            image: ECALL.as_bytes(),
+            image_fails: Fails::At(call),
+            output_fails: Fails::From(1),
+            status: 6,
+            fault: Some(Fault::ImageFault),
+            printed: "fault 6 image-fault\n",
+            ..ASM
+        };
+        assert_eq!(rt; difference(rt.alloc(), &line)?, None, "read {call}");
     }
     Ok(())
 }
 
 #[test]
 fn an_output_that_has_a_byte_stays_as_it_is(rt: HostRuntime) -> Result<(), Fail> {
-    let alloc = rt.alloc();
-    let output = full_file(alloc, &[9], well(alloc))?;
-    let done = serve(alloc, &ASM, image(alloc, ECALL.as_bytes())?, output)?;
-    let fault = Fault::NotEmpty { len: 1 };
-    assert_eq!(rt; done.end(), (8, Some(fault), "fault 8 not-empty 1\n"));
-    assert_eq!(rt; done.files.output.bytes(), [9].as_slice());
+    let line = Line {
+        image: ECALL.as_bytes(),
+        output: &[9],
+        status: 8,
+        fault: Some(Fault::NotEmpty { len: 1 }),
+        printed: "fault 8 not-empty 1\n",
+        written: &[9],
+        ..ASM
+    };
+    assert_eq!(rt; difference(rt.alloc(), &line)?, None);
     Ok(())
 }
 
-/// The assembly of a text over an empty file, and over a console that has so much room and whose calls fail by the
-/// plan.
-fn serve_console(alloc: Global, text: &str, room: u64, plan: FailPlan) -> Result<Outcome, Fail> {
-    let output = empty_output(alloc, well(alloc))?;
-    let console = MemSink::new(alloc, room, plan)?;
-    serve_on(alloc, &ASM, image(alloc, text.as_bytes())?, output, console)
-}
+const CONSOLE_FAULT: &str = "fault 5 console-fault\n";
 
 /// Whether what was printed is a front of a text, though not all of it, and then a front of another.
 fn is_cut(printed: &str, text: &str, line: &str) -> bool {
@@ -193,49 +215,82 @@ fn has_all_but_the_number(done: &Outcome) -> bool {
     done.answer.status == 5
         && done.answer.fault == Some(Fault::ConsoleFault)
         && is_cut(done.printed(), "assembled 4 bytes\n", CONSOLE_FAULT)
-        && done.files.output.bytes() == ECALL_WORD.as_slice()
+        && done.written() == ECALL_WORD.as_slice()
         && done.files.output.unsynced() == 0
 }
 
-const CONSOLE_FAULT: &str = "fault 5 console-fault\n";
+/// The assembly of one instruction over a console with so much room, whose calls fail so.
+fn on_console(console_room: u64, console_fails: Fails) -> Line<'static> {
+    Line {
+        image: ECALL.as_bytes(),
+        console_room,
+        console_fails,
+        printed: "assembled 4 bytes\n",
+        written: &ECALL_WORD,
+        ..ASM
+    }
+}
+
+/// Whether the console fails under its number, and takes this behind it.
+fn is_cut_before(alloc: Global, line: &Line, behind: &str) -> Result<bool, Fail> {
+    let done = answer(alloc, line)?;
+    Ok(has_all_but_the_number(&done) && done.printed().ends_with(behind))
+}
 
 #[test]
 fn the_bytes_stand_where_the_console_fails(rt: HostRuntime) -> Result<(), Fail> {
     let alloc = rt.alloc();
     // The calls are: the word, the digit, the rest.
     for call in 1..=3 {
-        let done = serve_console(alloc, ECALL, 1024, failing(alloc, call)?)?;
-        assert!(rt; has_all_but_the_number(&done), "call {call}");
-        assert!(rt; done.printed().ends_with(CONSOLE_FAULT), "call {call}");
-        let done = serve_console(alloc, ECALL, 1024, failing_from(alloc, call))?;
-        assert!(rt; has_all_but_the_number(&done), "from call {call} on");
+        let at = on_console(1024, Fails::At(call));
+        assert!(rt; is_cut_before(alloc, &at, CONSOLE_FAULT)?, "call {call}");
+        let from = on_console(1024, Fails::From(call));
+        assert!(rt; is_cut_before(alloc, &from, "")?, "from call {call} on");
     }
     // The line has 18 bytes.
     for room in 0..18 {
-        let done = serve_console(alloc, ECALL, room, well(alloc))?;
-        assert!(rt; has_all_but_the_number(&done), "room {room}");
+        assert!(rt;
+            is_cut_before(alloc, &on_console(room, Fails::Never), "")?,
+            "room {room}"
+        );
     }
-    let done = serve_console(alloc, ECALL, 18, failing_from(alloc, 4))?;
-    assert_eq!(rt; done.end(), (0, None, "assembled 4 bytes\n"));
+    assert_eq!(rt; difference(alloc, &on_console(18, Fails::From(4)))?, None);
     Ok(())
 }
+
+const WRONG_LINE: &str = "fault 9 assembly 1 syntax\n";
 
 #[test]
 fn a_fault_keeps_its_status_where_the_console_fails(rt: HostRuntime) -> Result<(), Fail> {
     let alloc = rt.alloc();
-    let text = "addi x1, x2";
-    let line = "fault 9 assembly 1 syntax\n";
-    let kind = AsmKind::Syntax;
-    let fault = Some(Fault::AsmRefused { line: 1, kind });
     // The line has 26 bytes.
     for room in 0..=26 {
-        let done = serve_console(alloc, text, room, well(alloc))?;
-        assert_eq!(rt; done.answer.status, 9, "room {room}");
-        assert_eq!(rt; done.answer.fault, fault, "room {room}");
-        assert!(rt; line.starts_with(done.printed()), "room {room}");
-        assert_eq!(rt; done.printed() == line, room == 26, "room {room}");
+        let line = Line {
+            image: b"addi x1, x2",
+            console_room: room as u64,
+            status: 9,
+            fault: Some(Fault::AsmRefused {
+                line: 1,
+                kind: AsmKind::Syntax,
+            }),
+            ..ASM
+        };
+        assert!(rt;
+            has_front_of(alloc, &line, WRONG_LINE, room)?,
+            "room {room}"
+        );
     }
-    let done = serve_console(alloc, text, 26, failing_from(alloc, 1))?;
-    assert_eq!(rt; done.end(), (9, fault, ""));
     Ok(())
+}
+
+/// Whether a line's console has a front of a text, and all of it where that fits in this room, and all else is as it has to be.
+fn has_front_of(alloc: Global, line: &Line, text: &str, room: usize) -> Result<bool, Fail> {
+    let done = answer(alloc, line)?;
+    let printed = done.printed();
+    Ok(
+        done.answer.status == line.status
+            && done.answer.fault == line.fault
+            && text.starts_with(printed)
+            && (printed == text) == (room >= text.len()),
+    )
 }

@@ -1,8 +1,8 @@
-use crate::guest::{GUEST, SAVE};
-use crate::jobs::{empty_output, image, serve_on};
-use medium::MemSink;
+use crate::guest::SAVE;
+use snapshot_by_hand::GUEST;
+use std::alloc::Global;
 use std::test::Fail;
-use test_lines::failing_from;
+use test_lines::{Fails, LINE, Line, answer};
 
 /// A line, its image, its status, and how many calls it makes on the output and on the console.
 #[rattlefmt::skip]
@@ -16,28 +16,39 @@ static LINES: [(&[&str], &[u8], u8, u64, u64); 7] = [
     (&SAVE, b"", 2, 0, 2),
 ];
 
+/// The status, and how many bytes are printed, of a line over an image, where the calls on the output and on the console fail so.
+fn ends<'a>(
+    alloc: Global,
+    words: &'a [&'static str],
+    image: &'a [u8],
+    output_fails: Fails,
+    console_fails: Fails,
+) -> Result<(u8, usize), Fail> {
+    let line = Line {
+        words,
+        image,
+        output_fails,
+        console_fails,
+        ..LINE
+    };
+    let done = answer(alloc, &line)?;
+    Ok((done.answer.status, done.printed().len()))
+}
+
 #[test]
 fn each_line_makes_its_calls_and_no_other(rt: HostRuntime) -> Result<(), Fail> {
     let alloc = rt.alloc();
-    for &(line, bytes, status, output_calls, console_calls) in &LINES {
-        let output = empty_output(alloc, failing_from(alloc, output_calls + 1))?;
-        let console = MemSink::new(alloc, 1024, failing_from(alloc, console_calls + 1))?;
-        let done = serve_on(alloc, line, image(alloc, bytes)?, output, console)?;
-        assert_eq!(rt; done.answer.status, status);
-        let printed = done.printed().len();
+    for &(words, image, wanted, on_output, on_console) in &LINES {
+        let (behind, after) = (Fails::From(on_output + 1), Fails::From(on_console + 1));
+        let (status, printed) = ends(alloc, words, image, behind, after)?;
+        assert!(rt; status == wanted);
 
-        if output_calls > 0 {
-            let output = empty_output(alloc, failing_from(alloc, output_calls))?;
-            let console = MemSink::new(alloc, 1024, failing_from(alloc, 100))?;
-            let done = serve_on(alloc, line, image(alloc, bytes)?, output, console)?;
-            assert_eq!(rt; done.answer.status, 4);
+        if on_output > 0 {
+            let (status, _) = ends(alloc, words, image, Fails::From(on_output), after)?;
+            assert!(rt; status == 4);
         }
-        if console_calls > 0 {
-            let output = empty_output(alloc, failing_from(alloc, 100))?;
-            let console = MemSink::new(alloc, 1024, failing_from(alloc, console_calls))?;
-            let done = serve_on(alloc, line, image(alloc, bytes)?, output, console)?;
-            assert!(rt; done.printed().len() < printed);
-        }
+        let (_, less) = ends(alloc, words, image, behind, Fails::From(on_console))?;
+        assert!(rt; less < printed);
     }
     Ok(())
 }

@@ -1,10 +1,10 @@
-use crate::guest::{GUEST, SAVE, elf_of_the_guest};
-use crate::jobs::{empty_output, image, serve, serve_in_threads};
+use crate::guest::{SAVE, elf_of_the_guest};
+use crate::jobs::difference_in_threads;
 use image_file::ElfKind;
 use image_file::ImageRefusal::Elf;
-use medium::MemSource;
+use snapshot_by_hand::GUEST;
 use std::test::Fail;
-use test_lines::failing_from;
+use test_lines::{Fails, LINE, Line, READER, difference};
 use vm_cli::Fault;
 use vm_words::UsageKind;
 
@@ -30,7 +30,7 @@ static OTHER_LINES: [(&[&str], Fault, &str); 13] = [
         Fault::Usage { index: 4, kind: UsageKind::NeedsThreads },
         "fault 1 usage 4 needs-threads\n",
     ),
-    (&["restore", "in=a", "mode=lazy"], Fault::NotYet, "fault 1 not-yet\n"),
+    (&["layer", "in=a", "out=b"], Fault::NotYet, "fault 1 not-yet\n"),
     (
         &["record", "image=a", "out=b"],
         Fault::Usage { index: 0, kind: UsageKind::NeedsThreads },
@@ -40,26 +40,38 @@ static OTHER_LINES: [(&[&str], Fault, &str); 13] = [
 
 #[test]
 fn every_other_line_is_answered_before_the_image(rt: HostRuntime) -> Result<(), Fail> {
-    let alloc = rt.alloc();
-    for &(line, fault, printed) in &OTHER_LINES {
-        let guest = MemSource::new(GUEST.to_vec(alloc)?, failing_from(alloc, 1));
-        let output = empty_output(alloc, failing_from(alloc, 1))?;
-        let done = serve(alloc, line, guest, output)?;
-        assert_eq!(rt; done.end(), (1, Some(fault), printed));
+    for &(words, fault, printed) in &OTHER_LINES {
+        let line = Line {
+            words,
+            image: &GUEST,
+            status: 1,
+            fault: Some(fault),
+            printed,
+            ..READER
+        };
+        assert_eq!(rt; difference(rt.alloc(), &line)?, None, "{printed}");
     }
     Ok(())
 }
 
+/// Lines that need threads.
+static WITH_THREADS: [&[&str]; 2] = [
+    &["save", "image=a", "out=b", "pages=1", "mode=threads"],
+    &["record", "image=a", "out=b"],
+];
+
 #[test]
 fn the_call_with_threads_refuses_no_line_for_its_threads(rt: HostRuntime) -> Result<(), Fail> {
-    let alloc = rt.alloc();
-    for line in [
-        ["save", "image=a", "out=b", "pages=1", "mode=threads"].as_slice(),
-        ["record", "image=a", "out=b"].as_slice(),
-    ] {
-        let guest = MemSource::new(GUEST.to_vec(alloc)?, failing_from(alloc, 1));
-        let done = serve_in_threads(&rt, alloc, line, guest)?;
-        assert_eq!(rt; done.end(), (1, Some(Fault::NotYet), "fault 1 not-yet\n"));
+    for words in WITH_THREADS {
+        let line = Line {
+            words,
+            image: &GUEST,
+            status: 1,
+            fault: Some(Fault::NotYet),
+            printed: "fault 1 not-yet\n",
+            ..READER
+        };
+        assert_eq!(rt; difference_in_threads(&rt, rt.alloc(), &line)?, None);
     }
     Ok(())
 }
@@ -77,26 +89,36 @@ static WRONG_BYTES: [(usize, u8, ElfKind, u64, &str); 8] = [
     (89, 0x10, ElfKind::Place, 88, "fault 2 image elf place 88\n"),
 ];
 
+/// A save of this image, which is refused before any call on the output.
+fn refused<'a>(image: &'a [u8], kind: ElfKind, at: u64, printed: &'a str) -> Line<'a> {
+    Line {
+        words: &SAVE,
+        image,
+        output_fails: Fails::From(1),
+        status: 2,
+        fault: Some(Fault::ImageRefused(Elf { kind, at })),
+        printed,
+        ..LINE
+    }
+}
+
 #[test]
 fn what_is_wrong_with_an_elf_file_is_printed_with_its_place(rt: HostRuntime) -> Result<(), Fail> {
     let alloc = rt.alloc();
     let right = elf_of_the_guest(0x8000_0000);
     for &(byte, value, kind, at, printed) in &WRONG_BYTES {
-        let mut elf = right.to_vec(alloc)?;
+        let mut elf = right;
         if let Some(changed) = elf.get_mut(byte) {
             *changed = value;
         }
-        let output = empty_output(alloc, failing_from(alloc, 1))?;
-        let done = serve(alloc, &SAVE, image(alloc, &elf)?, output)?;
-        let fault = Fault::ImageRefused(Elf { kind, at });
-        assert_eq!(rt; done.end(), (2, Some(fault), printed));
+        assert_eq!(rt;
+            difference(alloc, &refused(&elf, kind, at, printed))?,
+            None,
+            "{printed}"
+        );
     }
-
-    let output = empty_output(alloc, failing_from(alloc, 1))?;
     let short = right.get(..63).unwrap_or(&[]);
-    let done = serve(alloc, &SAVE, image(alloc, short)?, output)?;
-    let kind = ElfKind::Short;
-    let fault = Fault::ImageRefused(Elf { kind, at: 0 });
-    assert_eq!(rt; done.end(), (2, Some(fault), "fault 2 image elf short 0\n"));
+    let line = refused(short, ElfKind::Short, 0, "fault 2 image elf short 0\n");
+    assert_eq!(rt; difference(alloc, &line)?, None);
     Ok(())
 }

@@ -1,3 +1,5 @@
+use snapshot_by_hand::GUEST;
+
 /// The line that saves the guest.
 pub(crate) const SAVE: [&str; 8] = [
     "save",
@@ -9,9 +11,6 @@ pub(crate) const SAVE: [&str; 8] = [
     "stop=0",
     "run=0",
 ];
-
-/// Two instructions: addi x5, x0, 1 and ebreak.
-pub(crate) const GUEST: [u8; 8] = [0x93, 0x02, 0x10, 0x00, 0x73, 0x00, 0x00, 0x00];
 
 /// The guest as an ELF file of 128 bytes: one segment, whose bytes are the guest's and whose memory is at the place
 /// given.

@@ -1,53 +1,11 @@
-use medium::{FailPlan, MemMedium, MemSink, MemSource};
 use ram_block::Gate;
-use std::alloc::{AllocError, Global};
+use std::alloc::Global;
 use std::process::Abort;
 use std::sync::Wait;
 use std::test::Fail;
 use std::thread::Threads;
-use test_lines::{Files, Outcome, console, empty_file, full_file, well, words};
+use test_lines::{Differs, Line, Outcome, difference_of, words, work_on};
 use vm_cli::rvsnap;
-
-/// How many bytes an output has room for.
-const ROOM: u64 = 2_000_000;
-
-/// An image of these bytes.
-pub(crate) fn image(alloc: Global, bytes: &[u8]) -> Result<MemSource, AllocError> {
-    test_lines::image(alloc, bytes, well(alloc))
-}
-
-/// An empty output, whose calls fail by the plan.
-pub(crate) fn empty_output(alloc: Global, plan: FailPlan) -> Result<MemMedium, Fail> {
-    Ok(empty_file(alloc, ROOM, plan)?)
-}
-
-/// The answer to a line over files in memory.
-pub(crate) fn serve(
-    alloc: Global,
-    line: &[&str],
-    image: MemSource,
-    output: MemMedium,
-) -> Result<Outcome, Fail> {
-    let console = console(alloc, well(alloc))?;
-    serve_on(alloc, line, image, output, console)
-}
-
-/// The answer to a line over files and a console in memory.
-pub(crate) fn serve_on(
-    alloc: Global,
-    line: &[&str],
-    image: MemSource,
-    output: MemMedium,
-    console: MemSink,
-) -> Result<Outcome, Fail> {
-    let files = Files {
-        image,
-        input: full_file(alloc, &[], well(alloc))?,
-        output,
-        console,
-    };
-    Ok(test_lines::serve(alloc, line, files)?)
-}
 
 /// A gate that nobody may call.
 #[derive(Drop)]
@@ -65,16 +23,14 @@ impl<R: Abort + Sync> Gate for ClosedGate<'_, R> {
     }
 }
 
-/// The answer of the call with threads to a line over an empty file. It calls no gate.
-pub(crate) fn serve_in_threads<R: Abort + Threads + Wait + Sync>(
+/// In what the answer of the call with threads to a line differs from the one that is wanted, if in anything. It calls no gate.
+pub(crate) fn difference_in_threads<R: Abort + Threads + Wait + Sync>(
     rt: &R,
     alloc: Global,
-    line: &[&str],
-    image: MemSource,
-) -> Result<Outcome, Fail> {
-    let words = words(alloc, line)?;
-    let mut files = Files::with_room(alloc, ROOM)?;
-    files.image = image;
+    line: &Line,
+) -> Result<Option<Differs>, Fail> {
+    let words = words(alloc, line.words)?;
+    let mut files = work_on(alloc, line)?;
     let answer = rvsnap(
         rt,
         alloc,
@@ -85,5 +41,5 @@ pub(crate) fn serve_in_threads<R: Abort + Threads + Wait + Sync>(
         &mut files.console,
         &ClosedGate { rt },
     );
-    Ok(Outcome { answer, files })
+    Ok(difference_of(&Outcome { answer, files }, line))
 }
