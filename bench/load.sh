@@ -50,24 +50,16 @@ make_file() {
     put $((at + 359)) "04$(be 4 5)0574696d6572$(be 4 0)$(be 4 1)$(be 8 0)$(be 8 0)7e$(be 4 5)00"
 }
 
-# median COMMAND...: the middle of several turns.
-median() {
-    local turn
-    for turn in $(seq "$turns"); do
-        milliseconds "$@"
-    done | sort -n | sed -n "$(((turns + 1) / 2))p"
-}
-
 build_or_skip load_once crates/{load_once,loader,vm_cli,file_plan,device_state,mig_stream,medium,ram_block}/src
 make_file
-load=$(median "$program" "$file")
+load=$(median_time "$turns" "$program" "$file")
 [ "$(cat "$work/printed")" = "16384 pages" ] || fail "printed '$(cat "$work/printed")', not '16384 pages'"
-read=$(median dd if="$file" of=/dev/null bs=128M count=1 status=none)
-passed=$(median dd if="$file" of=/dev/null bs=64K status=none)
+read=$(median_time "$turns" dd if="$file" of=/dev/null bs=128M count=1 status=none)
+passed=$(median_time "$turns" dd if="$file" of=/dev/null bs=64K status=none)
 build_rvsnap_or_skip
-eager=$(median "$rvsnap" restore in="$file" run=1000)
+eager=$(median_time "$turns" "$rvsnap" restore in="$file" run=1000)
 cp "$work/printed" "$work/eager"
-lazy=$(median "$rvsnap" restore in="$file" run=1000 mode=lazy)
+lazy=$(median_time "$turns" "$rvsnap" restore in="$file" run=1000 mode=lazy)
 tail -n +2 "$work/printed" | cmp -s - "$work/eager" || fail "a lazy restore prints another report than an eager one"
 say "a load of $(wc -c < "$file") bytes takes $load ms, reading them into memory $read ms ($((load * 100 / read)) to 100), reading and dropping them $passed ms"
 say "a restore of it with run=1000 takes $eager ms, with mode=lazy $lazy ms"

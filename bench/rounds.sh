@@ -29,11 +29,6 @@ rate_of() {
     echo $((phases * 1000000 / (all - first)))
 }
 
-# median FILE: the middle one of its numbers.
-median() {
-    sort -n "$1" | sed -n "$(((turns + 1) / 2))p"
-}
-
 build_or_skip rounds_per_second crates/{rounds_per_second,flat_machine,rv64i_step,rv64i_decode,serial_timer,ram_block}/src
 build_rvsnap_or_skip
 
@@ -45,6 +40,6 @@ for _ in $(seq "$turns"); do
         rate_of "$guest" >> "$work/$guest.rates"
     done
 done
-compute=$(median "$work/compute.rates")
-pages=$(median "$work/pages.rates")
+compute=$(median < "$work/compute.rates")
+pages=$(median < "$work/pages.rates")
 say "$compute thousand instructions a second that compute, $pages that load and store over many pages, $((pages * 100 / compute)) to 100"

@@ -17,13 +17,12 @@ image=$work/large.img
 snapshot=$disk/large.snap
 shape=(blocks=8 pages=2048)
 
-# median COMMAND...: the middle of several turns. What stands for the output is removed before each.
-median() {
-    local turn
-    for turn in $(seq "$turns"); do
+# time_save COMMAND...: the middle one of several turns, in milliseconds. What stands for the output is removed before each.
+time_save() {
+    for _ in $(seq "$turns"); do
         rm -f "$disk/output"
         milliseconds "$@"
-    done | sort -n | sed -n "$(((turns + 1) / 2))p"
+    done | median
 }
 
 build_rvsnap_or_skip
@@ -36,9 +35,9 @@ build_rvsnap_or_skip
 "$rvsnap" save image="$image" out="$snapshot" "${shape[@]}" > "$work/report"
 grep -q '^ram pages 16384 nonzero 16384 ' "$work/report" || fail "the report is $(cat "$work/report")"
 
-still=$(median "$rvsnap" save image="$image" out="$disk/output" "${shape[@]}")
-runs=$(median "$rvsnap" save image="$image" out="$disk/output" "${shape[@]}" run=1000000)
-floor=$(median dd if="$snapshot" of="$disk/output" bs=1M conv=fsync status=none)
-check=$(median "$rvsnap" check in="$snapshot")
-restore=$(median "$rvsnap" restore in="$snapshot" run=1000)
+still=$(time_save "$rvsnap" save image="$image" out="$disk/output" "${shape[@]}")
+runs=$(time_save "$rvsnap" save image="$image" out="$disk/output" "${shape[@]}" run=1000000)
+floor=$(time_save dd if="$snapshot" of="$disk/output" bs=1M conv=fsync status=none)
+check=$(median_time "$turns" "$rvsnap" check in="$snapshot")
+restore=$(median_time "$turns" "$rvsnap" restore in="$snapshot" run=1000)
 say "a save of $(wc -c < "$snapshot") bytes takes $still ms, with 1,000,000 instructions $runs ms; the floor is $floor ms ($((still * 100 / floor)) to 100); a check takes $check ms, a restore $restore ms"

@@ -14,20 +14,12 @@ run=${1:-1000000}
 turns=5
 program=crates/events_in_threads/out/events_in_threads
 
-# median COMMAND...: the middle of several turns, in milliseconds.
-median() {
-    local turn
-    for turn in $(seq "$turns"); do
-        milliseconds "$@"
-    done | sort -n | sed -n "$(((turns + 1) / 2))p"
-}
-
 build_or_skip events_in_threads crates/{events_in_threads,page_bus,bus_rule,page_cell,flat_machine,rv64i_step,rv64i_decode,serial_timer,ram_block}/src
 
 for pages in one own; do
     for vcpus in 1 2 4 8; do
-        start=$(median "$program" "$vcpus" 1 "$pages")
-        all=$(median "$program" "$vcpus" "$run" "$pages")
+        start=$(median_time "$turns" "$program" "$vcpus" 1 "$pages")
+        all=$(median_time "$turns" "$program" "$vcpus" "$run" "$pages")
         echo "$pages page, $vcpus vCPUs: $((vcpus * run / (all - start))) thousand events a second"
     done
 done

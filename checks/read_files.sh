@@ -10,15 +10,9 @@ cd "$(dirname "$0")/.."
 
 build_rvsnap_or_skip
 
-# expect STATUS TEXT WORD...: rvsnap ends so on these words within ten seconds, and prints just this.
-expect() {
-    local wanted=$1 text=$2 status=0
-    shift 2
-    timeout 10 "$rvsnap" "$@" > "$work/printed" 2> "$work/errors" || status=$?
-    [ "$status" -eq "$wanted" ] || fail "status $status, not $wanted, from: rvsnap $*"
-    printf '%s' "$text" | cmp -s - "$work/printed" || fail "printed '$(cat "$work/printed")', not '$text', by: rvsnap $*"
-    [ ! -s "$work/errors" ] || fail "errors from: rvsnap $*"
-}
+# Each line ends in a moment.
+# shellcheck disable=SC2034 # expect reads it
+patience=10
 
 # expect_both STATUS TEXT FILE: so do a check and a restore of this file.
 expect_both() {

@@ -10,16 +10,6 @@ cd "$(dirname "$0")/.."
 
 build_rvsnap_or_skip
 
-# expect STATUS TEXT WORD...: rvsnap ends so on these words, and prints just this.
-expect() {
-    local wanted=$1 text=$2 status=0
-    shift 2
-    "$rvsnap" "$@" > "$work/printed" 2> "$work/errors" || status=$?
-    [ "$status" -eq "$wanted" ] || fail "status $status, not $wanted, from: rvsnap $*"
-    printf '%s' "$text" | cmp -s - "$work/printed" || fail "printed '$(cat "$work/printed")', not '$text', by: rvsnap $*"
-    [ ! -s "$work/errors" ] || fail "errors from: rvsnap $*"
-}
-
 # put FILE PLACE BYTES: these bytes, as printf writes them, at this place of a file.
 put() {
     printf "$3" | dd of="$1" bs=1 seek="$2" conv=notrunc status=none

@@ -62,6 +62,19 @@ build_rvsnap_or_skip() {
     build_or_skip rvsnap crates/*/src
 }
 
+# How long a line may take that is expected to end, in seconds.
+patience=60
+
+# expect STATUS TEXT WORD...: rvsnap ends so on these words in time, and prints just this.
+expect() {
+    local wanted=$1 text=$2 status=0
+    shift 2
+    timeout "$patience" "$rvsnap" "$@" > "$work/printed" 2> "$work/errors" || status=$?
+    [ "$status" -eq "$wanted" ] || fail "status $status, not $wanted, from: rvsnap $*"
+    printf '%s' "$text" | cmp -s - "$work/printed" || fail "printed '$(cat "$work/printed")', not '$text', by: rvsnap $*"
+    [ ! -s "$work/errors" ] || fail "errors from: rvsnap $*"
+}
+
 # milliseconds COMMAND...: how long it takes; what it prints stands in $work/printed.
 milliseconds() {
     local from to
@@ -69,4 +82,19 @@ milliseconds() {
     "$@" > "$work/printed"
     to=$(date +%s%N)
     echo $(((to - from) / 1000000))
+}
+
+# median: the middle one of the numbers that are read, a line for each.
+median() {
+    sort -n > "$work/numbers"
+    sed -n "$((($(wc -l < "$work/numbers") + 1) / 2))p" "$work/numbers"
+}
+
+# median_time TURNS COMMAND...: the middle one of so many turns, in milliseconds.
+median_time() {
+    local turns=$1
+    shift
+    for _ in $(seq "$turns"); do
+        milliseconds "$@"
+    done | median
 }
