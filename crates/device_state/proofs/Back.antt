@@ -3,6 +3,7 @@ use Rattle.std.proofs.Common.{◌≡◌, ℕ, zero, suc, ◌+◌, ◌<◌, ◌�
 use Rattle.std.specs.Prelude.{All, codes}
 use Rattle.std.specs.List.{flat_map}
 use Rattle.std.proofs.lemmas.List.Elements.{All-cons, All-nil}
+use Rattle.mig_stream.specs.Checks.{and_then}
 use Rattle.mig_stream.specs.Pieces.{Has}
 use Rattle.mig_stream.specs.Text.{be32, be64, part_text, start_text, footer_text}
 use Rattle.mig_stream.specs.declared.put.TheConstants.{FULL}
@@ -10,7 +11,7 @@ use Rattle.rv64i_step.specs.Vcpu.{VcpuData}
 use Rattle.serial_timer.specs.Serial.{SerialData}
 use Rattle.device_state.specs.DeviceText.{SerialVersion, One, Two, IsResting, cpu_section, cpu_sections, serial_section, state_byte, timer_section, version_number}
 use Rattle.device_state.specs.Reader.{AreBytes}
-use Rattle.device_state.specs.Reading.{and_then, kind_of, start_in, vcpu_in, vcpu_of, vcpus_in}
+use Rattle.device_state.specs.Reading.{kind_of, start_in, vcpu_in, vcpu_of, vcpus_in}
 use Rattle.device_state.specs.declared.fault.DeviceReadFault.{DeviceReadFault}
 use Rattle.device_state.specs.declared.kind.DeviceKind.{DeviceKind}
 use Rattle.device_state.specs.declared.kind.DeviceKind.TheVariants.{Cpu, Serial}

@@ -1,12 +1,13 @@
 -- How the refusals and the findings of the parts make those of the whole.
 use Rattle.std.proofs.Common.{◌≡◌, ℕ, ◌+◌, List, [], ◌∷◌, Result, Ok, Err, length, ap, ◌∙◌, sym, slice_index}
 use Rattle.ram_block.specs.declared.shape.TheConstants.{MAX_VCPUS}
+use Rattle.mig_stream.specs.Checks.{and_then}
 use Rattle.mig_stream.specs.Pieces.{same_text}
 use Rattle.mig_stream.specs.declared.put.TheConstants.{EOF}
 use Rattle.rv64i_step.specs.Vcpu.{VcpuData}
 use Rattle.serial_timer.specs.Serial.{SerialData}
 use Rattle.device_state.specs.DeviceText.{SerialVersion}
-use Rattle.device_state.specs.Reading.{SerialHead, TimerBody, and_then, bytes_in, checked, devices_in, footer_in, head_bytes, head_in, head_of, rest_in, section_in, serial_in, tagged_in, timer_in, vcpus_in, version_in}
+use Rattle.device_state.specs.Reading.{SerialHead, TimerBody, bytes_in, checked, devices_in, footer_in, head_bytes, head_in, head_of, rest_in, section_in, serial_in, tagged_in, timer_in, vcpus_in, version_in}
 use Rattle.device_state.specs.declared.fault.DeviceReadFault.{DeviceReadFault}
 use Rattle.device_state.specs.declared.fault.DeviceReadFault.TheVariants.{Section}
 

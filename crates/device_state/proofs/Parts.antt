@@ -2,9 +2,10 @@
 use Rattle.std.proofs.Common.{◌≡◌, ℕ, ◌+◌, List, [], ◌∷◌, ◌++◌, Result, Ok, Err, length, take, drop, refl, sym, ap, ◌∙◌, subst, arith, slice_index, length-append}
 use Rattle.std.proofs.Math.Seq.{take-add, get_or-append_seam}
 use Rattle.std.proofs.lemmas.List.{drop-drop, length-take, length-drop, take_all, take_more}
+use Rattle.mig_stream.specs.Checks.{and_then}
 use Rattle.mig_stream.specs.Pieces.{Has, same_text}
 use Rattle.mig_stream.specs.Text.{footer_text}
-use Rattle.device_state.specs.Reading.{and_then, bytes_in, checked, footer_in, section_in, tagged_in, rest_in}
+use Rattle.device_state.specs.Reading.{bytes_in, checked, footer_in, section_in, tagged_in, rest_in}
 use Rattle.device_state.specs.declared.fault.DeviceReadFault.{DeviceReadFault}
 use Rattle.device_state.specs.declared.fault.DeviceReadFault.TheVariants.{Section}
 use Rattle.device_state.proofs.Chains.{tagged_found, rest_found}

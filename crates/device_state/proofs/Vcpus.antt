@@ -2,7 +2,8 @@
 use Rattle.std.proofs.Common.{◌≡◌, ℕ, zero, suc, ◌+◌, ◌-◌, ◌<◌, List, [], ◌∷◌, ◌++◌, Result, Ok, Err, length, refl, sym, ap, ◌∙◌, arith, append_assoc, length-append}
 use Rattle.std.proofs.lemmas.List.{append-nil}
 use Rattle.rv64i_step.specs.Vcpu.{VcpuData}
-use Rattle.device_state.specs.Reading.{and_then, start_in, vcpu_in, vcpus_in}
+use Rattle.mig_stream.specs.Checks.{and_then}
+use Rattle.device_state.specs.Reading.{start_in, vcpu_in, vcpus_in}
 use Rattle.device_state.specs.declared.fault.DeviceReadFault.{DeviceReadFault}
 use Rattle.device_state.specs.declared.kind.DeviceKind.TheVariants.{Cpu, Serial}
 

@@ -5,6 +5,7 @@ use Rattle.ram_block.specs.Cause.{cause_of}
 use Rattle.ram_block.specs.declared.cause.Cause.{Cause}
 use Rattle.ram_block.specs.declared.limits.TheConstants.{MAX_INPUT, MOST_AT_REST}
 use Rattle.ram_block.specs.declared.shape.TheConstants.{MAX_VCPUS}
+use Rattle.mig_stream.specs.Checks.{and_then}
 use Rattle.mig_stream.specs.Pieces.{piece_in, same_text, text_in}
 use Rattle.mig_stream.specs.Text.{be32, be32_at, be64_at, part_text, start_text, footer_text}
 use Rattle.mig_stream.specs.declared.field_fault.FieldFault.{FieldFault}
@@ -23,11 +24,6 @@ use Rattle.device_state.specs.declared.fault.DeviceReadFault.TheVariants.{Field,
 use Rattle.device_state.specs.declared.format.TheConstants.{CPU_VERSION, FIRST_DEVICE, PC_AT, SERIAL_HEAD_BYTES, SERIAL_HEAD_BYTES_WITHOUT_INPUT, SERIAL_VERSION, SERIAL_VERSION_WITHOUT_INPUT, STATE_AT, STEPS_AT, TIMER_BYTES, TIMER_VERSION, VCPU_BYTES}
 use Rattle.device_state.specs.declared.kind.DeviceKind.{DeviceKind}
 use Rattle.device_state.specs.declared.kind.DeviceKind.TheVariants.{Cpu, Serial}
-
--- goes on with what was found, or keeps the refusal
-abbrev pub and_then : {A B : Type 0} → Result A DeviceReadFault → (A → Result B DeviceReadFault) → Result B DeviceReadFault
-and_then (Ok found) next = next found
-and_then (Err fault) next = Err fault
 
 -- what a piece has, and the place behind it
 abbrev pub located : ℕ → Result (List ℕ) FieldFault → Result (List ℕ × ℕ) DeviceReadFault

@@ -5,6 +5,7 @@ use Rattle.std.proofs.lemmas.List.{ext_get_or}
 use Rattle.std.proofs.lemmas.Option.{slice_get-get_or}
 use Rattle.ram_block.specs.PageLinks.{is_listed}
 use Rattle.ram_block.specs.Shape.{ShapeData, total_pages_of}
+use Rattle.mig_stream.specs.Checks.{and_then}
 use Rattle.page_bitmap.specs.Bitmap.{BitmapData}
 use Rattle.flat_machine.specs.Machine.{IsMachine, MachineData, Rest}
 use Rattle.flat_machine.specs.Page.{joined}
@@ -12,7 +13,7 @@ use Rattle.file_plan.specs.Plan.{block_places, page_place}
 use Rattle.file_plan.specs.Layout.{Lay}
 use Rattle.loader.specs.Frame.{FrameData, frame_in}
 use Rattle.loader.specs.Loaded.{loaded, machine_of, pages_from}
-use Rattle.loader.specs.Piece.{Refuses, and_then}
+use Rattle.loader.specs.Piece.{Refuses}
 use Rattle.loader.specs.Stands.{HasFrame, IsFrame}
 use Rattle.loader.specs.Whole.{AreWhole, IsWhole as IsWholeBlock}
 use Rattle.loader.specs.declared.refusal.LoadFault.{LoadFault}

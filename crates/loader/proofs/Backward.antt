@@ -4,6 +4,7 @@ use Rattle.std.specs.Prelude.{◌==◌, ◌&&◌, nat_le}
 use Rattle.std.proofs.lemmas.Bool.{and_parts, eqb-true, leb-true}
 use Rattle.std.proofs.lemmas.List.{length-take, length-drop, take_all}
 use Rattle.ram_block.specs.declared.limits.TheConstants.{MAX_RAM}
+use Rattle.mig_stream.specs.Checks.{and_then, check, number32_in, number64_in, read_from}
 use Rattle.mig_stream.specs.Pieces.{piece_in}
 use Rattle.mig_stream.specs.Text.{be32, be64, be32_at, be64_at}
 use Rattle.mig_stream.specs.declared.field_fault.FieldFault.{FieldFault}
@@ -12,15 +13,15 @@ use Rattle.device_state.proofs.Found.{IsPiece, piece_of}
 use Rattle.file_plan.specs.Layout.{StandsAt, configuration_text}
 use Rattle.file_plan.specs.declared.format.TheConstants.{MAGIC, RAM_VERSION, STREAM_VERSION}
 use Rattle.loader.specs.Frame.{ram_header, stream_in, total_in, total_of}
-use Rattle.loader.specs.Piece.{and_then, check, expected, number32_in, number64_in, read_from}
+use Rattle.loader.specs.Piece.{expected}
 use Rattle.loader.specs.Stands.{HasStream, HasTotal}
 use Rattle.loader.specs.declared.piece.Text.TheVariants as texts
-use Rattle.loader.specs.declared.refusal.Refusal.TheVariants.{Flags, Magic, RamVersion, StreamVersion, Total}
+use Rattle.loader.specs.declared.refusal.Refusal.TheVariants.{Flags, Magic, RamVersion, StreamVersion, Total, Truncated}
 use Rattle.loader.proofs.Texts.{stands}
 use Rattle.loader.proofs.Whole.{both_ok, passes}
 
 -- what was read is of a piece
-pub of_piece : {A : Type 0} (read : List ℕ → A) (piece : Result (List ℕ) FieldFault) (a : A) → read_from read piece ≡ Ok a → (bytes : List ℕ) × (piece ≡ Ok bytes) × (read bytes ≡ a)
+pub of_piece : {A : Type 0} (read : List ℕ → A) (piece : Result (List ℕ) FieldFault) (a : A) → read_from Truncated read piece ≡ Ok a → (bytes : List ℕ) × (piece ≡ Ok bytes) × (read bytes ≡ a)
 of_piece read (Ok bytes) a is =
     let same : read bytes ≡ a = cc in
     (bytes, refl, same)
@@ -35,7 +36,7 @@ piece_long file at len bytes piece =
     let count = ap length piece.same in
     omega (arith, count, piece.room, length-take len (drop at file), length-drop at file)
 
-pub number32_of : (file : List ℕ) (at v : ℕ) → Bytes file → number32_in file at ≡ Ok v → StandsAt file at (be32 v)
+pub number32_of : (file : List ℕ) (at v : ℕ) → Bytes file → number32_in Truncated file at ≡ Ok v → StandsAt file at (be32 v)
 number32_of file at v each is =
     let parts = of_piece (λ (bytes : List ℕ). be32_at bytes 0) (piece_in file at 4) v is in
     let piece = piece_of file at 4 parts.0 parts.1 in
@@ -44,7 +45,7 @@ number32_of file at v each is =
     let whole : take 4 parts.0 ≡ parts.0 = take_all 4 parts.0 (omega (arith, long)) in
     piece.same ∙ sym whole ∙ sym text
 
-pub number64_of : (file : List ℕ) (at v : ℕ) → Bytes file → number64_in file at ≡ Ok v → StandsAt file at (be64 v)
+pub number64_of : (file : List ℕ) (at v : ℕ) → Bytes file → number64_in Truncated file at ≡ Ok v → StandsAt file at (be64 v)
 number64_of file at v each is =
     let parts = of_piece (λ (bytes : List ℕ). be64_at bytes 0) (piece_in file at 8) v is in
     let piece = piece_of file at 8 parts.0 parts.1 in
@@ -54,15 +55,15 @@ number64_of file at v each is =
     piece.same ∙ sym whole ∙ sym text
 
 -- a number that passed its check
-known32 : (file : List ℕ) (at v wanted : ℕ) → Bytes file → number32_in file at ≡ Ok v → (v == wanted) ≡ true → StandsAt file at (be32 wanted)
+known32 : (file : List ℕ) (at v wanted : ℕ) → Bytes file → number32_in Truncated file at ≡ Ok v → (v == wanted) ≡ true → StandsAt file at (be32 wanted)
 known32 file at v wanted each is right = subst (λ (k : ℕ). StandsAt file at (be32 k)) (eqb-true v wanted right) (number32_of file at v each is)
 
 pub stream_of : (file : List ℕ) → Bytes file → stream_in file ≡ Ok tt → HasStream file
 unfolding stream_in
 stream_of file each is =
-    let one = both_ok (number32_in file 0) _ tt is in
-    let magic = passes (one.0 == MAGIC) (Magic one.0) (and_then (number32_in file 4) (λ (v : ℕ). and_then (check (v == STREAM_VERSION) (StreamVersion v)) (λ _. expected texts.Configuration file 8 configuration_text))) tt one.2 in
-    let two = both_ok (number32_in file 4) (λ (v : ℕ). and_then (check (v == STREAM_VERSION) (StreamVersion v)) (λ _. expected texts.Configuration file 8 configuration_text)) tt magic.1 in
+    let one = both_ok (number32_in Truncated file 0) _ tt is in
+    let magic = passes (one.0 == MAGIC) (Magic one.0) (and_then (number32_in Truncated file 4) (λ (v : ℕ). and_then (check (v == STREAM_VERSION) (StreamVersion v)) (λ _. expected texts.Configuration file 8 configuration_text))) tt one.2 in
+    let two = both_ok (number32_in Truncated file 4) (λ (v : ℕ). and_then (check (v == STREAM_VERSION) (StreamVersion v)) (λ _. expected texts.Configuration file 8 configuration_text)) tt magic.1 in
     let version = passes (two.0 == STREAM_VERSION) (StreamVersion two.0) (expected texts.Configuration file 8 configuration_text) tt two.2 in
     record {
       magic = known32 file 0 one.0 MAGIC each one.1 magic.0;
@@ -80,9 +81,9 @@ pub total_told_of : (file : List ℕ) (total : ℕ) → Bytes file → total_in 
 unfolding total_in
 total_told_of file total each is =
     let header = both_ok (expected texts.SectionHeader file 22 ram_header) _ total is in
-    let one = both_ok (number32_in file 35) _ total header.2 in
-    let version = passes (one.0 == RAM_VERSION) (RamVersion one.0) (and_then (number64_in file 39) (total_of 39)) total one.2 in
-    let two = both_ok (number64_in file 39) (total_of 39) total version.1 in
+    let one = both_ok (number32_in Truncated file 35) _ total header.2 in
+    let version = passes (one.0 == RAM_VERSION) (RamVersion one.0) (and_then (number64_in Truncated file 39) (total_of 39)) total one.2 in
+    let two = both_ok (number64_in Truncated file 39) (total_of 39) total version.1 in
     let v = two.0 in
     let flags = passes (v % 4096 == 4) (Flags 39 v) (and_then (check (nat_le 4096 (v - 4) && nat_le (v - 4) MAX_RAM) (Total v)) (λ _. Ok (v - 4))) total two.2 in
     let limits = passes (nat_le 4096 (v - 4) && nat_le (v - 4) MAX_RAM) (Total v) (Ok (v - 4)) total flags.1 in

@@ -8,8 +8,8 @@ use Rattle.device_state.specs.declared.fault.DeviceReadFault.{DeviceReadFault}
 use Rattle.device_state.proofs.Bodies.{Bytes}
 use Rattle.device_state.proofs.WholeBack.{devices_told}
 use Rattle.file_plan.specs.Plan.{record_place}
+use Rattle.mig_stream.specs.Checks.{and_then}
 use Rattle.loader.specs.Frame.{FrameData, RamData, devices_behind, frame_in, framed, last_in, last_of, ram_in, stream_in, tail_in, total_in}
-use Rattle.loader.specs.Piece.{and_then}
 use Rattle.loader.specs.Stands.{EndsWith, HasFrame, HasLast, HasTotal, IsFrame}
 use Rattle.loader.specs.declared.refusal.Refusal.TheVariants.{Trailing}
 use Rattle.loader.proofs.Backward.{stream_of, total_told_of}

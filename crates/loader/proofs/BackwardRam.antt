@@ -3,6 +3,7 @@ use Rattle.std.proofs.Common.{◌≡◌, inl, inr, ℕ, zero, suc, ◌+◌, ◌-
 use Rattle.std.specs.Prelude.{◌==◌, if◌then◌else◌}
 use Rattle.std.proofs.lemmas.Bool.{cases_lt, eqb-true}
 use Rattle.std.proofs.lemmas.List.{take_all}
+use Rattle.mig_stream.specs.Checks.{and_then, check, number64_in, read_from}
 use Rattle.mig_stream.specs.Pieces.{piece_in}
 use Rattle.mig_stream.specs.Text.{be32, be64, be32_at, be64_at, footer_text, part_text}
 use Rattle.mig_stream.specs.declared.put.TheConstants.{END}
@@ -17,12 +18,12 @@ use Rattle.file_plan.specs.Plan.{record_place, block_places}
 use Rattle.file_plan.specs.declared.format.TheConstants.{END_FLAG, RAM_SECTION}
 use Rattle.file_plan.specs.declared.plan.TheConstants.{FIRST_RECORD}
 use Rattle.loader.specs.Frame.{RamData, bitmaps_in, block_in, blocks_in, is_length, ram_in, end_marker_in, header_in, later_in, refused_header, tail_in, used_in}
-use Rattle.loader.specs.Piece.{and_then, check, expected, number64_in, read_from}
+use Rattle.loader.specs.Piece.{expected}
 use Rattle.loader.specs.Stands.{HasBlock, HasBlocks, HasHeader, HasTail, HasUsed}
 use Rattle.loader.specs.declared.piece.Text.{Text}
 use Rattle.loader.specs.declared.piece.Text.TheVariants as texts
 use Rattle.loader.specs.declared.refusal.Refusal.{Refusal}
-use Rattle.loader.specs.declared.refusal.Refusal.TheVariants.{Flags, Length}
+use Rattle.loader.specs.declared.refusal.Refusal.TheVariants.{Flags, Length, Truncated}
 use Rattle.loader.proofs.Backward.{number64_of, of_piece, piece_bytes, piece_long}
 use Rattle.loader.proofs.Texts.{stands, stands_both}
 use Rattle.loader.proofs.Lengths.{length_parts, some_block, total_is}
@@ -35,7 +36,7 @@ found_text kind file at text tt is = stands kind file at text is
 used_of : (file : List ℕ) (block at v : ℕ) → Bytes file → used_in file block at ≡ Ok v → HasUsed file block at v
 unfolding used_in
 used_of file block at v each is =
-    let name = both_ok (expected (texts.BlockName block) file at (length (block_name block) ∷ block_name block)) (λ _. number64_in file (at + 5)) v is in
+    let name = both_ok (expected (texts.BlockName block) file at (length (block_name block) ∷ block_name block)) (λ _. number64_in Truncated file (at + 5)) v is in
     record { name = found_text (texts.BlockName block) file at (length (block_name block) ∷ block_name block) name.0 name.1; used = number64_of file (at + 5) v each name.2 }
 
 -- a field that passed its check
@@ -68,7 +69,7 @@ header_of : (file : List ℕ) (pages block : ℕ) → Bytes file → header_in f
 unfolding header_in HasHeader
 header_of file pages block each is =
     let p = block_places pages block in
-    let read = both_ok (read_from (λ (bytes : List ℕ). header_fault bytes p) (piece_in file p.header 28)) (refused_header block) tt is in
+    let read = both_ok (read_from Truncated (λ (bytes : List ℕ). header_fault bytes p) (piece_in file p.header 28)) (refused_header block) tt is in
     let parts = of_piece (λ (bytes : List ℕ). header_fault bytes p) (piece_in file p.header 28) read.0 read.1 in
     let piece = piece_of file p.header 28 parts.0 parts.1 in
     let ok : header_fault parts.0 p ≡ Ok tt = parts.2 ∙ header_ok block read.0 read.2 in
@@ -148,7 +149,7 @@ checked false refusal is = absurd (cc)
 -- an end marker
 marker_of : (file : List ℕ) (at : ℕ) → Bytes file → end_marker_in file at ≡ Ok tt → StandsAt file at (be64 END_FLAG)
 marker_of file at each is =
-    let number = both_ok (number64_in file at) (λ (v : ℕ). check (v == END_FLAG) (Flags at v)) tt is in
+    let number = both_ok (number64_in Truncated file at) (λ (v : ℕ). check (v == END_FLAG) (Flags at v)) tt is in
     let test = checked (number.0 == END_FLAG) (Flags at number.0) number.2 in
     subst (λ (k : ℕ). StandsAt file at (be64 k)) (eqb-true number.0 END_FLAG test) (number64_of file at number.0 each number.1)
 

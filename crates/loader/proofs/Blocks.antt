@@ -2,12 +2,13 @@
 use Rattle.std.proofs.Common.{◌≡◌, inl, inr, ℕ, zero, suc, ◌+◌, ◌*◌, ◌<◌, List, ◌∷◌, ◌++◌, [], Ok, Err, Result, IfOk, ap, sym, subst, arith}
 use Rattle.std.proofs.lemmas.Bool.{cases_lt}
 use Rattle.ram_block.specs.declared.page_buf.TheConstants.{PAGE}
+use Rattle.mig_stream.specs.Checks.{and_then}
 use Rattle.page_bitmap.specs.Bitmap.{BitmapData}
 use Rattle.file_plan.specs.Plan.{record_place}
 use Rattle.file_plan.specs.declared.plan.TheConstants.{FIRST_RECORD}
 use Rattle.loader.specs.declared.refusal.LoadFault.{LoadFault}
 use Rattle.loader.specs.declared.refusal.Refusal.{Refusal}
-use Rattle.loader.specs.Piece.{Refuses, and_then}
+use Rattle.loader.specs.Piece.{Refuses}
 use Rattle.loader.specs.Frame.{blocks_in, later_in}
 use Rattle.loader.specs.Stands.{HasBlock, HasBlocks, HasHeader, HasLater, HasUsed}
 

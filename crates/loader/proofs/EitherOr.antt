@@ -5,9 +5,9 @@ use Rattle.std.proofs.lemmas.List.{get_or_past}
 use Rattle.flat_machine.specs.Machine.{MachineData}
 use Rattle.device_state.proofs.Bodies.{Bytes}
 use Rattle.file_plan.specs.Layout.{Lay}
+use Rattle.mig_stream.specs.Checks.{and_then}
 use Rattle.loader.specs.Frame.{FrameData, frame_in}
 use Rattle.loader.specs.Loaded.{IsLoaded, loaded, machine_of, refusal, refusal_in}
-use Rattle.loader.specs.Piece.{and_then}
 use Rattle.loader.specs.declared.refusal.Refusal.{Refusal}
 use Rattle.loader.proofs.BackwardFrame.{frame_of}
 use Rattle.loader.proofs.ForwardFrame.{frame, frame_has, frame_limits, frame_told}

@@ -5,6 +5,7 @@ use Rattle.std.specs.Prelude.{◌==◌, nat_lt}
 use Rattle.std.proofs.lemmas.Bool.{cond-false, cond-true, le-leb, le-ltb, and_from, and_right, eq-eqb}
 use Rattle.std.proofs.lemmas.Nat.{from_be_bytes-to_be_bytes_8}
 use Rattle.ram_block.specs.Shape.{IsShape, ShapeData, ram_bytes_of}
+use Rattle.mig_stream.specs.Checks.{and_then, read_from}
 use Rattle.mig_stream.specs.Pieces.{piece_in}
 use Rattle.mig_stream.specs.Text.{be64}
 use Rattle.mapped_ram_header.specs.Header.{header_bytes, header_fault}
@@ -16,9 +17,9 @@ use Rattle.device_state.proofs.Parts.{has_parts}
 use Rattle.file_plan.specs.Plan.{record_place, block_places}
 use Rattle.file_plan.specs.Layout.{StandsAt, block_name, record_text}
 use Rattle.loader.specs.Frame.{RamData, bitmap_in, bitmaps_in, block_in, blocks_in, cut_page, header_in, is_length, later_in, ram_in, refused_header, refused_page, used_in}
-use Rattle.loader.specs.Piece.{and_then, read_from}
 use Rattle.loader.specs.Stands.{HasBlock, HasBlocks, HasHeader, HasUsed}
 use Rattle.loader.specs.declared.piece.Text.TheVariants as texts
+use Rattle.loader.specs.declared.refusal.Refusal.TheVariants.{Truncated}
 use Rattle.loader.proofs.Forward.{then_ok, check_ok, number64_is, expected_is}
 
 -- a record
@@ -45,7 +46,7 @@ unfolding header_in HasHeader
 header_is file pages block stands right =
     let bytes = header_bytes (block_places pages block) in
     let piece : piece_in file (block_places pages block).header 28 ≡ Ok bytes = piece_is file (block_places pages block).header 28 bytes (piece_has file (block_places pages block).header bytes stands) in
-    ap (λ (p : Result (List ℕ) _). and_then (read_from (λ (b : List ℕ). header_fault b (block_places pages block)) p) (refused_header block)) piece ∙ ap (refused_header block) right
+    ap (λ (p : Result (List ℕ) _). and_then (read_from Truncated (λ (b : List ℕ). header_fault b (block_places pages block)) p) (refused_header block)) piece ∙ ap (refused_header block) right
 
 -- a bitmap that the file has whole
 pub bitmap_there : List ℕ → ℕ → ℕ → BitmapData
@@ -56,7 +57,7 @@ unfolding bitmap_in bitmap_there
 bitmap_is file pages at room =
     let long : byte_len_of pages ≤ length file - at = omega (arith, room) in
     let piece : piece_in file at (byte_len_of pages) ≡ Ok (take (byte_len_of pages) (drop at file)) = cond-false _ _ _ (le-ltb _ _ long) in
-    ap (read_from (λ (bytes : List ℕ). record { pages = pages; bits = bits_of pages bytes })) piece
+    ap (read_from Truncated (λ (bytes : List ℕ). record { pages = pages; bits = bits_of pages bytes })) piece
 
 -- no page is cut that ends within the file
 none_cut : (len at : ℕ) (bits : List Bool) → at + 4096 * length bits ≤ len → cut_page len at bits ≡ None

@@ -7,9 +7,10 @@ use Rattle.device_state.specs.Reading.{devices_in}
 use Rattle.device_state.specs.Reader.{IsRefusal, told_of}
 use Rattle.device_state.specs.declared.fault.DeviceReadFault.{DeviceReadFault}
 use Rattle.device_state.specs.declared.fault.DeviceReadFault.TheVariants as devices
+use Rattle.mig_stream.specs.Checks.{and_then}
 use Rattle.mig_stream.specs.declared.field_fault.FieldFault.TheVariants as fields
 use Rattle.loader.specs.Frame.{last_of, last_in}
-use Rattle.loader.specs.Piece.{Refuses, and_then, devices_fault}
+use Rattle.loader.specs.Piece.{Refuses, devices_fault}
 use Rattle.device_state.specs.declared.devices.Devices.{Devices}
 use Rattle.loader.specs.Stands.{EndsWith, HasLast, HasTail}
 use Rattle.loader.specs.declared.refusal.LoadFault.{LoadFault}

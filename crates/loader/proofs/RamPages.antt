@@ -2,6 +2,7 @@
 use Rattle.std.proofs.Common.{◌≡◌, ℕ, zero, suc, ◌+◌, ◌-◌, ◌*◌, ◌/◌, ◌<◌, ◌≤◌, Bool, true, false, List, [], ◌∷◌, ◌++◌, length, drop, get_or, All, Some, None, Ok, Err, Result, ◌%◌, refl, sym, ◌∙◌, ap, arith, inl, inr, length-append, suc-mul, add_comm}
 use Rattle.std.specs.Prelude.{slice_get, ◌==◌}
 use Rattle.std.specs.Int.{bit_at}
+use Rattle.mig_stream.specs.Checks.{read_from}
 use Rattle.mig_stream.specs.declared.field_fault.FieldFault.{FieldFault}
 use Rattle.std.proofs.Math.ListN.{get_or-append}
 use Rattle.std.proofs.lemmas.List.{get_or-append-add, get_or-take, length-take, length-drop, length-replicate}
@@ -15,8 +16,8 @@ use Rattle.device_state.proofs.Found.{piece_of}
 use Rattle.std.proofs.lemmas.List.Elements.{All-append, All-cons, All-nil}
 use Rattle.loader.specs.Frame.{bitmap_in, cut_page, is_cut}
 use Rattle.loader.specs.Loaded.{block_pages, page_by, pages_from}
-use Rattle.loader.specs.Piece.{read_from}
 use Rattle.loader.specs.Whole.{AreWhole, IsWhole}
+use Rattle.loader.specs.declared.refusal.Refusal.TheVariants.{Truncated}
 
 -- a page by its number in the block
 pub nth_page : (file : List ℕ) (at p : ℕ) (bits : List Bool) (d : List ℕ) → p < length bits → get_or (block_pages file at bits) p d ≡ page_by file (at + 4096 * p) (get_or bits p false)
@@ -71,7 +72,7 @@ block_whole file at (bit ∷ bits) none =
     All-cons (λ page. length page ≡ 4096) (page_by file at bit) (block_pages file (at + 4096) bits) (page_whole file at bit long) (block_whole file (at + 4096) bits (rest_uncut (length file) at bit bits none))
 
 -- the bits of a bitmap are those that stand in the file
-bitmap_of_piece : (file : List ℕ) (pages at : ℕ) (bitmap : BitmapData) (piece : Result (List ℕ) FieldFault) → read_from (λ bytes. record { pages = pages; bits = bits_of pages bytes }) piece ≡ Ok bitmap
+bitmap_of_piece : (file : List ℕ) (pages at : ℕ) (bitmap : BitmapData) (piece : Result (List ℕ) FieldFault) → read_from Truncated (λ bytes. record { pages = pages; bits = bits_of pages bytes }) piece ≡ Ok bitmap
     → (bytes : List ℕ) × (piece ≡ Ok bytes) × (bits_of pages bytes ≡ bitmap.bits) × (pages ≡ bitmap.pages)
 bitmap_of_piece file pages at bitmap (Ok bytes) is =
     let same : record { pages = pages; bits = bits_of pages bytes } ≡ bitmap = cc in

@@ -1,6 +1,7 @@
 -- The bitmaps of a file that is loaded are of its pages, and no page with a set bit is cut.
 use Rattle.std.proofs.Common.{◌≡◌, ℕ, zero, suc, ◌+◌, ◌-◌, ◌*◌, ◌<◌, List, [], ◌∷◌, ◌++◌, Bool, true, false, ◌/◌, ◌≤◌, length, drop, drop-cons, slice_get, Option, Some, None, Ok, Err, Result, refl, ◌∙◌, ap, subst, arith, length-append}
 use Rattle.std.proofs.lemmas.Option.{slice_get_within, get_or_from_slice_get}
+use Rattle.mig_stream.specs.Checks.{and_then, check, number32_in, number64_in}
 use Rattle.page_bitmap.specs.Bitmap.{BitmapData}
 use Rattle.ram_block.specs.declared.page_buf.TheConstants.{PAGE}
 use Rattle.file_plan.specs.Plan.{block_places, record_place}
@@ -8,11 +9,11 @@ use Rattle.device_state.specs.DeviceText.{DevicesData}
 use Rattle.file_plan.specs.declared.plan.TheConstants.{FIRST_RECORD}
 use Rattle.loader.specs.Frame.{FrameData, RamData, devices_behind, frame_in, framed, is_length, ram_in, ram_header, stream_in, total_in, total_of, bitmap_in, bitmaps_in, block_in, blocks_in, cut_page, header_in, later_in, refused_page, used_in}
 use Rattle.loader.proofs.Lengths.{length_parts, some_block}
-use Rattle.loader.specs.Piece.{Refuses, and_then, check, expected, number32_in, number64_in}
+use Rattle.loader.specs.Piece.{Refuses, expected}
 use Rattle.loader.specs.Whole.{IsWhole, AreWhole}
 use Rattle.loader.specs.Loaded.{block_pages, pages_from}
 use Rattle.loader.specs.declared.refusal.Refusal.{Refusal}
-use Rattle.loader.specs.declared.refusal.Refusal.TheVariants.{Flags, Length, RamVersion, Total}
+use Rattle.loader.specs.declared.refusal.Refusal.TheVariants.{Flags, Length, RamVersion, Total, Truncated}
 use Rattle.std.specs.Prelude.{◌==◌, ◌&&◌, ◌%◌, nat_le}
 use Rattle.std.proofs.lemmas.Bool.{leb-true, and_parts}
 use Rattle.flat_machine.specs.Machine.{MachineData}
@@ -122,9 +123,9 @@ total_least : (file : List ℕ) (total : ℕ) → total_in file ≡ Ok total →
 unfolding total_in
 total_least file total found =
     let header = both_ok (expected texts.SectionHeader file 22 ram_header) _ total found in
-    let version = both_ok (number32_in file 35) _ total header.2 in
+    let version = both_ok (number32_in Truncated file 35) _ total header.2 in
     let checked = both_ok (check (version.0 == RAM_VERSION) (RamVersion version.0)) _ total version.2 in
-    let number = both_ok (number64_in file 39) (total_of 39) total checked.2 in
+    let number = both_ok (number64_in Truncated file 39) (total_of 39) total checked.2 in
     let flags = both_ok (check (number.0 % 4096 == 4) (Flags 39 number.0)) _ total number.2 in
     let limits = passes (nat_le 4096 (number.0 - 4) && nat_le (number.0 - 4) 67108864) (Total number.0) (Ok (number.0 - 4)) total flags.2 in
     let least : 4096 ≤ number.0 - 4 = leb-true _ _ (and_parts _ _ limits.0).0 in

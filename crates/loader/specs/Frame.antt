@@ -5,6 +5,7 @@ use Rattle.ram_block.specs.Shape.{ShapeData}
 use Rattle.ram_block.specs.declared.limits.TheConstants.{MAX_RAM}
 use Rattle.ram_block.specs.declared.page_buf.TheConstants.{PAGE}
 use Rattle.ram_block.specs.declared.shape.TheConstants.{MAX_BLOCKS, MAX_PAGES}
+use Rattle.mig_stream.specs.Checks.{and_then, cut_at, check, number32_in, number64_in, read_from}
 use Rattle.mig_stream.specs.Pieces.{piece_in}
 use Rattle.mig_stream.specs.Text.{start_text, part_text, footer_text}
 use Rattle.mig_stream.specs.declared.put.TheConstants.{START, END}
@@ -21,7 +22,7 @@ use Rattle.device_state.specs.DeviceText.{DevicesData}
 use Rattle.device_state.specs.Reading.{DevicesRead, devices_in}
 use Rattle.device_state.specs.declared.fault.DeviceReadFault.{DeviceReadFault}
 use Rattle.device_state.specs.declared.fault.DeviceReadFault.TheVariants as devices
-use Rattle.loader.specs.Piece.{and_then, cut_at, check, expected, number32_in, number64_in, read_from}
+use Rattle.loader.specs.Piece.{expected}
 use Rattle.loader.specs.declared.refusal.Refusal.{Refusal}
 use Rattle.loader.specs.declared.refusal.Refusal.TheVariants.{Truncated, Magic, StreamVersion, Section, RamVersion, Flags, Total, Length, Header, Footer, Device, Trailing}
 use Rattle.loader.specs.declared.piece.Text.TheVariants as texts
@@ -38,8 +39,8 @@ ram_header = take 13 (start_text START RAM_SECTION RAM_NAME 0 RAM_VERSION)
 -- the magic, the version and the configuration
 unfoldable pub stream_in : List ℕ → Result (Unit {0}) Refusal
 stream_in file =
-    and_then (number32_in file 0) (λ magic. and_then (check (magic == MAGIC) (Magic magic)) (λ _.
-    and_then (number32_in file 4) (λ version. and_then (check (version == STREAM_VERSION) (StreamVersion version)) (λ _.
+    and_then (number32_in Truncated file 0) (λ magic. and_then (check (magic == MAGIC) (Magic magic)) (λ _.
+    and_then (number32_in Truncated file 4) (λ version. and_then (check (version == STREAM_VERSION) (StreamVersion version)) (λ _.
     expected texts.Configuration file 8 configuration_text))))
 
 -- the total of RAM in bytes, of the number that stands at the place
@@ -52,8 +53,8 @@ total_of at v =
 unfoldable pub total_in : List ℕ → Result ℕ Refusal
 total_in file =
     and_then (expected texts.SectionHeader file 22 ram_header) (λ _.
-    and_then (number32_in file 35) (λ version. and_then (check (version == RAM_VERSION) (RamVersion version)) (λ _.
-    and_then (number64_in file 39) (total_of 39))))
+    and_then (number32_in Truncated file 35) (λ version. and_then (check (version == RAM_VERSION) (RamVersion version)) (λ _.
+    and_then (number64_in Truncated file 39) (total_of 39))))
 
 -- whether a block can have this length: so many whole pages, and as many blocks as make the total
 abbrev pub is_length : ℕ → ℕ → Bool
@@ -65,7 +66,7 @@ shape_of total v = if is_length total v then Some (record { vcpus = 1; blocks = 
 
 -- the name of a block and its used length
 unfoldable pub used_in : List ℕ → ℕ → ℕ → Result ℕ Refusal
-used_in file block at = and_then (expected (texts.BlockName block) file at (length (block_name block) ∷ block_name block)) (λ _. number64_in file (at + 5))
+used_in file block at = and_then (expected (texts.BlockName block) file at (length (block_name block) ∷ block_name block)) (λ _. number64_in Truncated file (at + 5))
 
 -- the header of a block is the one that its places ask for
 abbrev pub refused_header : ℕ → Result (Unit {0}) HeaderFault → Result (Unit {0}) Refusal
@@ -73,11 +74,11 @@ refused_header block (Ok same) = Ok tt
 refused_header block (Err fault) = Err (Header block fault)
 
 unfoldable pub header_in : List ℕ → ℕ → Places → Result (Unit {0}) Refusal
-header_in file block places = and_then (read_from (λ bytes. header_fault bytes places) (piece_in file places.header HEADER_LEN)) (refused_header block)
+header_in file block places = and_then (read_from Truncated (λ bytes. header_fault bytes places) (piece_in file places.header HEADER_LEN)) (refused_header block)
 
 -- the bitmap of a block of so many pages
 unfoldable pub bitmap_in : List ℕ → ℕ → ℕ → Result BitmapData Refusal
-bitmap_in file pages at = read_from (λ bytes. record { pages = pages; bits = bits_of pages bytes }) (piece_in file at (byte_len_of pages))
+bitmap_in file pages at = read_from Truncated (λ bytes. record { pages = pages; bits = bits_of pages bytes }) (piece_in file at (byte_len_of pages))
 
 -- a page with this bit, which would stand at the place, isn't whole in a file of this length
 abbrev pub is_cut : ℕ → ℕ → Bool → Bool
@@ -123,7 +124,7 @@ ram_in file total =
 
 -- an end marker
 abbrev pub end_marker_in : List ℕ → ℕ → Result (Unit {0}) Refusal
-end_marker_in file at = and_then (number64_in file at) (λ v. check (v == END_FLAG) (Flags at v))
+end_marker_in file at = and_then (number64_in Truncated file at) (λ v. check (v == END_FLAG) (Flags at v))
 
 -- what stands between the pages and the device text
 unfoldable pub tail_in : List ℕ → ℕ → Result (Unit {0}) Refusal

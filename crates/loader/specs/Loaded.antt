@@ -2,13 +2,13 @@
 use Rattle.std.specs.Prelude.{◌≡◌, ℕ, ◌+◌, Bool, List, [], ◌∷◌, ◌++◌, take, drop, Option, Some, None, Result, Ok, Err, if◌then◌else◌}
 use Rattle.ram_block.specs.Page.{zero_page}
 use Rattle.ram_block.specs.declared.page_buf.TheConstants.{PAGE}
+use Rattle.mig_stream.specs.Checks.{and_then}
 use Rattle.page_bitmap.specs.Bitmap.{BitmapData}
 use Rattle.flat_machine.specs.Machine.{MachineData}
 use Rattle.flat_machine.specs.Page.{joined}
 use Rattle.file_plan.specs.Layout.{Lay}
 use Rattle.file_plan.specs.Plan.{block_places}
 use Rattle.loader.specs.Frame.{FrameData, frame_in}
-use Rattle.loader.specs.Piece.{and_then}
 use Rattle.loader.specs.declared.refusal.Refusal.{Refusal}
 
 -- a page by its bit: the bytes at its place, or zeros

@@ -1,7 +1,7 @@
 -- A piece of a file, read whole and then checked, or why the file is refused (this project's own, docs/FILE_FORMAT.md).
-use Rattle.std.specs.Prelude.{◌≡◌, ⊤, ℕ, Bool, List, Result, Ok, Err, if◌then◌else◌}
-use Rattle.mig_stream.specs.Pieces.{piece_in, text_in}
-use Rattle.mig_stream.specs.Text.{be32_at, be64_at}
+use Rattle.std.specs.Prelude.{◌≡◌, ⊤, ℕ, List, Result, Ok, Err}
+use Rattle.mig_stream.specs.Checks.{cut_at}
+use Rattle.mig_stream.specs.Pieces.{text_in}
 use Rattle.mig_stream.specs.declared.field_fault.FieldFault.{FieldFault}
 use Rattle.mig_stream.specs.declared.field_fault.FieldFault.TheVariants as fields
 use Rattle.mig_stream.specs.declared.text_fault.TextFault.{TextFault}
@@ -15,20 +15,7 @@ use Rattle.loader.specs.declared.refusal.LoadFault.TheVariants.{Refused, ReadFau
 use Rattle.loader.specs.declared.piece.Text.{Text}
 use Rattle.loader.specs.declared.piece.Text.TheVariants as texts
 
--- what follows, where this is there and right
-abbrev pub and_then : {A B F : Type 0} → Result A F → (A → Result B F) → Result B F
-and_then (Ok x) rest = rest x
-and_then (Err fault) rest = Err fault
-
--- a check of what was read
-abbrev pub check : Bool → Refusal → Result (Unit {0}) Refusal
-check right refusal = if right then Ok tt else Err refusal
-
--- where the piece begins in which the file ends; bytes that are told have no fault of reading
-abbrev pub cut_at : FieldFault → ℕ
-cut_at (fields.Truncated at) = at
-cut_at fields.ReadFault = 0
-
+-- the fault of a piece that isn't there
 abbrev pub cut_fault : FieldFault → LoadFault
 cut_fault (fields.Truncated at) = Refused (Truncated at)
 cut_fault fields.ReadFault = ReadFault
@@ -40,17 +27,6 @@ devices_fault (devices.Section at found) = Refused (Section at found)
 devices_fault (devices.Footer at found) = Refused (Footer at found)
 devices_fault (devices.Device at fault) = Refused (Device at fault)
 devices_fault devices.NoMemory = NoMemory
-
--- what is read from a piece, where the file doesn't end in it
-abbrev pub read_from : {A : Type 0} → (List ℕ → A) → Result (List ℕ) FieldFault → Result A Refusal
-read_from read (Ok bytes) = Ok (read bytes)
-read_from read (Err fault) = Err (Truncated (cut_at fault))
-
-abbrev pub number32_in : List ℕ → ℕ → Result ℕ Refusal
-number32_in file at = read_from (λ bytes. be32_at bytes 0) (piece_in file at 4)
-
-abbrev pub number64_in : List ℕ → ℕ → Result ℕ Refusal
-number64_in file at = read_from (λ bytes. be64_at bytes 0) (piece_in file at 8)
 
 -- the refusal of a text by its first byte that differs
 abbrev pub refusal_of : Text → ℕ → ℕ → Refusal

@@ -2,10 +2,12 @@ ghost use Rattle.std.specs.Prelude.{◌≡◌, ◌≤◌, ◌+◌, ◌^◌, ℕ,
 ghost use Rattle.medium.specs.Count.{HasRisen};
 ghost use Rattle.medium.specs.Members.{file_state};
 ghost use Rattle.medium.specs.States.{Leaves};
+ghost use Rattle.mig_stream.specs.Checks.{number32_in, number64_in};
 ghost use Rattle.mig_stream.specs.Text.{be32, be64};
 ghost use Rattle.file_plan.specs.Layout.{StandsAt};
-ghost use Rattle.loader.specs.Piece.{Answers, cut_fault, expected, number32_in, number64_in, refusal_of};
+ghost use Rattle.loader.specs.Piece.{Answers, cut_fault, expected, refusal_of};
 ghost use Rattle.loader.specs.declared.refusal.LoadFault.TheVariants.{ReadFault, Refused};
+ghost use Rattle.loader.specs.declared.refusal.Refusal.TheVariants.{Truncated};
 
 use crate::{LoadFault, Refusal};
 use medium::Readable;
@@ -23,7 +25,7 @@ pub enum Text {
 /// The number in the four bytes from a place on.
 pub(crate) fn read_number32<M: Readable>(medium: &mut M, at: u64) -> Result<u32, LoadFault>
     requires { at ≤ 2 ^ 32 }
-    ensures answer { (file : List ℕ) → M.told medium.old ≡ Some file → Answers (number32_in file at) result }
+    ensures answer { (file : List ℕ) → M.told medium.old ≡ Some file → Answers (number32_in Truncated file at) result }
     ensures stands { (file : List ℕ) → M.told medium.old ≡ Some file → IfOk result (λ v. StandsAt file at (be32 v)) }
     ensures read_fault { result ≡ Err ReadFault → HasRisen (M.faults medium.old) (M.faults medium.new) }
     ensures leaves { Leaves (file_state M.Readable medium.old) (file_state M.Readable medium.new) }
@@ -38,7 +40,7 @@ pub(crate) fn read_number32<M: Readable>(medium: &mut M, at: u64) -> Result<u32,
 /// The number in the eight bytes from a place on.
 pub(crate) fn read_number64<M: Readable>(medium: &mut M, at: u64) -> Result<u64, LoadFault>
     requires { at ≤ 2 ^ 32 }
-    ensures answer { (file : List ℕ) → M.told medium.old ≡ Some file → Answers (number64_in file at) result }
+    ensures answer { (file : List ℕ) → M.told medium.old ≡ Some file → Answers (number64_in Truncated file at) result }
     ensures stands { (file : List ℕ) → M.told medium.old ≡ Some file → IfOk result (λ v. StandsAt file at (be64 v)) }
     ensures read_fault { result ≡ Err ReadFault → HasRisen (M.faults medium.old) (M.faults medium.new) }
     ensures leaves { Leaves (file_state M.Readable medium.old) (file_state M.Readable medium.new) }
