@@ -13,6 +13,7 @@ pub mod Runs
 pub mod SameMachine
 pub mod Servable
 pub mod Served
+pub mod Sums
 pub mod Touched
 pub mod Turns
 pub mod UnderWay

@@ -7,5 +7,6 @@ pub mod Order
 pub mod Page
 pub mod Run
 pub mod Step
+pub mod Sum
 pub mod Touched
 pub mod UnderWay

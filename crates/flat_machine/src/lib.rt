@@ -13,6 +13,7 @@ mod page_access;
 mod ram;
 mod rounds;
 mod step;
+mod sum;
 mod vcpus;
 
 pub use device_access::{apply_to_serial, apply_to_timer};

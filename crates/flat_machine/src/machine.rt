@@ -168,6 +168,7 @@ impl Machine {
     pub fn pages(&self) -> &[PageBuf]
         ensures pages { joined result.now ≡ self.now.ram }
         ensures count { length result.now ≡ total_pages_of self.now.shape }
+        ensures whole { All (λ page. length page ≡ PAGE) result.now }
         ensures limits { IsMachine self.now }
     {
         &self.ram

@@ -2,5 +2,4 @@ pub mod Counts
 pub mod Digits
 pub mod Ranges
 pub mod Rows
-pub mod Sums
 pub mod Zeros

@@ -1,18 +1,9 @@
 -- What the report tells of RAM (this project's own, docs/COMMAND_LINE.md, Report).
-use Rattle.std.specs.Prelude.{ℕ, ◌/◌, ◌%◌, ◌^◌, Bool, not, ◌==◌, List, length}
+use Rattle.std.specs.Prelude.{ℕ, Bool, not, ◌==◌, List}
 use Rattle.std.specs.Int.{from_le_bytes, w64}
-use Rattle.std.specs.List.{count_by, list_all, range_with_len, sum_by}
-use Rattle.std.specs.Simd.{first_chunks}
+use Rattle.std.specs.List.{count_by, list_all, range_with_len}
 use Rattle.ram_block.specs.Shape.{total_pages_of}
 use Rattle.flat_machine.specs.Machine.{MachineData, page_of}
-
--- the sum of the little-endian words of eight bytes of a list
-unfoldable pub sum_of_words : List ℕ → ℕ
-sum_of_words bytes = sum_by (from_le_bytes w64) (first_chunks 8 (length bytes / 8) bytes)
-
--- the sum of RAM, modulo 2^64
-abbrev pub ram_sum : MachineData → ℕ
-ram_sum m = sum_of_words m.ram % 2 ^ 64
 
 -- whether a word of eight bytes is 0
 abbrev pub is_zero_word : List ℕ → Bool

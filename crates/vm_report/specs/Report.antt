@@ -12,11 +12,12 @@ use Rattle.rv64i_step.specs.declared.state.State.{State}
 use Rattle.rv64i_step.specs.declared.state.State.TheVariants.{Running, Halted}
 use Rattle.serial_timer.specs.Serial.{SerialData}
 use Rattle.flat_machine.specs.Machine.{MachineData}
+use Rattle.flat_machine.specs.Sum.{ram_sum}
 use Rattle.bg_saver.specs.declared.save_end.SaveEnd.{SaveEnd}
 use Rattle.bg_saver.specs.declared.save_end.SaveEnd.TheVariants.{Complete, Failed}
 use Rattle.vm_report.specs.declared.save_line.SaveLine.{SaveLine}
 use Rattle.vm_report.specs.Hex.{hex_digits}
-use Rattle.vm_report.specs.Ram.{nonzero_pages, ram_sum}
+use Rattle.vm_report.specs.Ram.{nonzero_pages}
 
 -- ---- A save
 

@@ -2,7 +2,7 @@ ghost use Rattle.std.specs.Prelude.{◌≡◌, ◌<◌, ◌+◌, ◌≤◌, ◌+
 ghost use Rattle.vm_report.specs.Report.{clock_line, end_text, first_lines, ram_line, ram_text, save_line, timer_line};
 
 use crate::SaveLine;
-use crate::ram::{count_nonzero, sum_pages};
+use crate::ram::count_nonzero;
 use crate::text::Text;
 use bg_saver::SaveEnd;
 use flat_machine::Machine;
@@ -62,14 +62,13 @@ fn put_clock(text: &mut Text, clock: u64)
 pub(crate) fn last_lines(machine: &Machine) -> Text
     ensures { result ≡ timer_line machine.now.cmp ++ ram_line machine.now }
 {
-    let pages = machine.pages();
     let mut text = Text::new();
     put_timer(&mut text, machine.timer().cmp());
     put_ram(
         &mut text,
         machine.shape().total_pages(),
-        count_nonzero(pages),
-        sum_pages(pages),
+        count_nonzero(machine.pages()),
+        machine.ram_sum(),
     );
     text
 }

@@ -1,8 +1,6 @@
-ghost use Rattle.std.specs.Prelude.{◌≡◌, ◌%◌, ◌^◌, ◌<◌, ◌≤◌, length, All};
-ghost use Rattle.std.specs.List.{count_by, list_all, sum_by};
-ghost use Rattle.std.specs.Int.{from_le_bytes, w64};
-ghost use Rattle.flat_machine.specs.Page.{joined};
-ghost use Rattle.vm_report.specs.Ram.{is_nonzero, is_zero_word, sum_of_words};
+ghost use Rattle.std.specs.Prelude.{◌≡◌, ◌^◌, ◌<◌, ◌≤◌, length, All};
+ghost use Rattle.std.specs.List.{count_by, list_all};
+ghost use Rattle.vm_report.specs.Ram.{is_nonzero, is_zero_word};
 
 use ram_block::{PAGE, PageBuf};
 
@@ -19,34 +17,6 @@ pub(crate) fn count_nonzero(pages: &[PageBuf]) -> u32
         }
     }
     count
-}
-
-/// The sum of the pages, one after another, modulo 2^64.
-pub(crate) fn sum_pages(pages: &[PageBuf]) -> u64
-    ensures { result ≡ sum_of_words (joined pages.now) % 2 ^ 64 }
-{
-    let mut sum = 0u64;
-    for page in pages {
-        sum = sum.wrapping_add(sum_bytes(page.bytes()));
-    }
-    sum
-}
-
-fn sum_bytes(bytes: &[u8]) -> u64
-    ensures { result ≡ sum_of_words bytes.now % 2 ^ 64 }
-{
-    let (words, _) = bytes.as_chunks::<8>();
-    sum_words(words)
-}
-
-fn sum_words(words: &[[u8; 8]]) -> u64
-    ensures { result ≡ sum_by (from_le_bytes w64) words.now % 2 ^ 64 }
-{
-    let mut sum = 0u64;
-    for word in words {
-        sum = sum.wrapping_add(u64::from_le_bytes(*word));
-    }
-    sum
 }
 
 // Whether some byte of a page isn't 0, by its words.

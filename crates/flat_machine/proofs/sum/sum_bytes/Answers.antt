@@ -1,8 +1,8 @@
 use Rattle.std.proofs.Common.{ap, ◌∙◌, ◌%◌, ◌^◌}
 use Rattle.std.specs.Int.{from_le_bytes, w64}
 use Rattle.std.specs.List.{sum_by}
-use Rattle.vm_report.specs.Ram.{sum_of_words}
-use Rattle.vm_report.proofs.ram.sum_bytes.Goals as goal
+use Rattle.flat_machine.specs.Sum.{sum_of_words}
+use Rattle.flat_machine.proofs.sum.sum_bytes.Goals as goal
 
 pub returns : goal.returns
 unfolding sum_of_words

@@ -1,7 +1,7 @@
 use Rattle.std.proofs.Common.{◌∙◌, ap, ◌%◌, ◌^◌}
-use Rattle.vm_report.specs.Ram.{sum_of_words}
-use Rattle.vm_report.proofs.Sums.{length_more, length_none, sum_more, sum_none}
-use Rattle.vm_report.proofs.ram.sum_pages.Goals as goal
+use Rattle.flat_machine.specs.Sum.{sum_of_words}
+use Rattle.flat_machine.proofs.Sums.{length_more, length_none, sum_more, sum_none}
+use Rattle.flat_machine.proofs.sum.sum_pages.Goals as goal
 
 pub loop-page-init : goal.loop-page-init
 loop-page-init c = record { sum = sum_none; whole = length_none }

@@ -1,8 +1,8 @@
 use Rattle.std.proofs.Common.{◌≡◌, ◌*◌, ◌%◌, ◌^◌, length, take}
 use Rattle.ram_block.specs.declared.page_buf.TheConstants.{PAGE}
 use Rattle.flat_machine.specs.Page.{joined}
-use Rattle.vm_report.specs.Ram.{sum_of_words}
-use Rattle.vm_report.proofs.ram.sum_pages.Given as goal
+use Rattle.flat_machine.specs.Sum.{sum_of_words}
+use Rattle.flat_machine.proofs.sum.sum_pages.Given as goal
 
 abbrev pub invariant-loop-page : goal.invariant-loop-page
 invariant-loop-page l = record {

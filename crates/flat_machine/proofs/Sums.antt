@@ -9,7 +9,7 @@ use Rattle.std.proofs.lemmas.List.Sums.{sum_by-append}
 use Rattle.ram_block.specs.declared.page_buf.TheConstants.{PAGE}
 use Rattle.flat_machine.specs.Page.{joined}
 use Rattle.flat_machine.proofs.Padded.{joined_push}
-use Rattle.vm_report.specs.Ram.{sum_of_words}
+use Rattle.flat_machine.specs.Sum.{sum_of_words}
 
 -- the chunks of a list that has whole ones, and then those of what stands behind it
 chunks_append : (n j k : ℕ) (xs ys : List ℕ) → length xs ≡ n * j → first_chunks n (j + k) (xs ++ ys) ≡ first_chunks n j xs ++ first_chunks n k ys
