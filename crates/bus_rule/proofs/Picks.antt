@@ -1,5 +1,5 @@
 -- The steps of the queue: its front is picked, it is found empty, or a page is queued by a stop.
-use Rattle.std.proofs.Common.{◌≡◌, inl, inr, ℕ, ◌<◌, Bool, true, eqb, List, [], ◌∷◌, All, length, drop, map, set, slice_index, Some, refl, sym, ◌∙◌, ap, subst, arith}
+use Rattle.std.proofs.Common.{◌≡◌, inl, inr, ℕ, ◌<◌, Bool, true, eqb, List, [], ◌∷◌, ◌++◌, All, length, drop, map, set, slice_index, Some, refl, sym, ◌∙◌, ap, subst, arith}
 use mathlib.Core.Option.{some}
 use lib.ListN.{get_elem?}
 use Rattle.std.proofs.lemmas.Bool.{eq-eqb, or_left}
@@ -65,8 +65,8 @@ module _ (i : MachineData) (n : ℕ) (protect : Bool) (s : State Cell PassData) 
           number_of_pick [] = refl
           number_of_pick (page ∷ l) = refl
 
-      flagged : (picked : List Bool) → length picked ≡ length b.picked → IsFlagged i protect k.now (record b { picked = picked })
-      flagged picked same = record {
+      flagged : (picked : List Bool) (fronts : List ℕ) → length picked ≡ length b.picked → IsFlagged i protect k.now (record b { picked = picked; fronts = fronts })
+      flagged picked fronts same = record {
         writable = ap (λ (y : Book). length y.writable) first.1 ∙ k.flagged.writable;
         picked = same ∙ ap (λ (y : Book). length y.picked) first.1 ∙ k.flagged.picked;
         unprotected = λ e. subst (λ (y : Book). All (λ w. w ≡ true) y.writable) (sym first.1) (k.flagged.unprotected e);
@@ -85,10 +85,10 @@ module _ (i : MachineData) (n : ℕ) (protect : Bool) (s : State Cell PassData) 
           marks.book_kept i n protect s k id p at b (with_empty b) [] word (after_pick p b q) can.role (ap (λ l. Saving (book_after_pick b l)) list) refl refl refl refl
           (locks_after b.writable [] (ap (λ (y : Book). y.writable) first.1) (ap (drop 1) list))
           (record {
-            writable = (flagged b.picked refl).writable;
-            picked = (flagged b.picked refl).picked;
-            unprotected = (flagged b.picked refl).unprotected;
-            instant = (flagged b.picked refl).instant;
+            writable = (flagged b.picked b.fronts refl).writable;
+            picked = (flagged b.picked b.fronts refl).picked;
+            unprotected = (flagged b.picked b.fronts refl).unprotected;
+            instant = (flagged b.picked b.fronts refl).instant;
           })
           (seeks [] b.picked (subst (λ (l : List ℕ). Seeks k.book.writable k.book.writable k.queue l k.book.picked b.picked) empty
           (subst (λ (ps : List Bool). Seeks k.book.writable k.book.writable k.queue k.queue k.book.picked ps) (ap (λ (y : Book). y.picked) (sym first.1)) (seeks_same k.book.writable k.queue k.book.picked))))
@@ -98,7 +98,7 @@ module _ (i : MachineData) (n : ℕ) (protect : Bool) (s : State Cell PassData) 
           let within = k.faults.below page here in
           marks.book_kept i n protect s k id p at b (with_picked b page) rest word (after_pick p b q) can.role (ap (λ l. Saving (book_after_pick b l)) list) refl refl refl refl
           (locks_after b.writable rest (ap (λ (y : Book). y.writable) first.1) (ap (drop 1) list))
-          (flagged (set b.picked page true) (length-set b.picked page true))
+          (flagged (set b.picked page true) (b.fronts ++ page ∷ []) (length-set b.picked page true))
           (seeks rest (set b.picked page true) (subst (λ (ps : List Bool). Seeks k.book.writable k.book.writable k.queue rest k.book.picked (set ps page true)) (ap (λ (y : Book). y.picked) (sym first.1))
           (subst (λ (l : List ℕ). Seeks k.book.writable k.book.writable l rest k.book.picked (set k.book.picked page true)) (sym front) (seeks_picked k.book.writable page rest k.book.picked within))))
 

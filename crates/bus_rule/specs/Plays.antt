@@ -43,6 +43,7 @@ first_book i n protect = record {
   joined = [];
   writable = replicate (total_pages_of i.shape) (not protect);
   picked = replicate (total_pages_of i.shape) false;
+  fronts = [];
   empties = 0;
 }
 
@@ -179,9 +180,9 @@ pub record CanStop (p : PassData) (t : Task) (c page : ℕ) (bytes : List ℕ) (
   pub writes : written_page (request_in t) ≡ Some page
   pub top : (below : List (ℕ × Cell)) × (p.held ≡ (c, cells.Faults q) ∷ (page, cells.Page bytes Protected) ∷ below)
 
--- a page was picked
+-- a page was the front of the queue and was picked
 abbrev pub with_picked : Book → ℕ → Book
-with_picked b page = record b { picked = slice_set b.picked page true }
+with_picked b page = record b { picked = slice_set b.picked page true; fronts = b.fronts ++ page ∷ [] }
 
 -- the queue was found empty
 abbrev pub with_empty : Book → Book

@@ -29,7 +29,8 @@ pub record Task : Type 0 where
   pub wants : Option ℕ
 
 -- what the saver's pass knows: the instant and the length of the phase; how many vCPUs' passes it has split off, and
--- those that it has taken in; which pages are writable and which were picked, and how often it found the queue empty
+-- those that it has taken in; which pages are writable and which were picked, the fronts that it took from the queue, in
+-- their order, and how often it found the queue empty
 pub record Book : Type 0 where
   pub instant : MachineData
   pub run : ℕ
@@ -37,6 +38,7 @@ pub record Book : Type 0 where
   pub joined : List Task
   pub writable : List Bool
   pub picked : List Bool
+  pub fronts : List ℕ
   pub empties : ℕ
 
 -- a pass that was joined is spent

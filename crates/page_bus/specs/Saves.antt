@@ -20,8 +20,8 @@ pages_of_book b = total_pages_of b.instant.shape
 abbrev pub with_book : PassData → Book → PassData
 with_book p b = record p { role = Saving b }
 
--- what a pick makes of the pass, by its answer: the front of the queue joins the picked pages, or the queue was empty, or
--- was found held
+-- what a pick makes of the pass, by its answer: the page was the front of the queue, and joins the fronts and the picked
+-- pages; or the queue was empty, or was found held
 abbrev pub PicksTo : PassData → Pick → PassData → Type 0
 PicksTo old (picks.Fault page) new = (page < pages_of_book (book_of old)) × (new ≡ with_book old (with_picked (book_of old) page))
 PicksTo old picks.Empty new = new ≡ with_book old (with_empty (book_of old))
