@@ -1,0 +1,12 @@
+pub mod Changed
+pub mod Counts
+pub mod DeviceRead
+pub mod Entries
+pub mod Fronts
+pub mod Joins
+pub mod Lasts
+pub mod NeverLate
+pub mod Numbers
+pub mod PageRead
+pub mod Pieces
+pub mod Rams
