@@ -64,16 +64,18 @@ ends_saved i n protect bus old new pass other saver end now out rest opened is p
       ended = λ none. none-some end (sym none ∙ saved);
       saved = saved ∙ sym ends.ended;
       counts = counts;
-      all = λ complete. ap (λ (c : Counts). c.faults + c.sweep) counts ∙ all_counted total (sym saved ∙ complete);
-      most = (let m = ends.limits.most in
-          let c = ap (λ (c : Counts). c.faults + c.sweep) counts in
-          omega (arith, m, c, total));
-      faults = record {
-        flags = saver.faulted;
-        counted = ap (λ (c : Counts). c.faults) counts ∙ ends.limits.faults;
-        each = λ p set. subst (λ (m : MachineData). IsWritten m out.order.members p) started (closes.picked pending p (ends.keeps.save.picked p set));
+      bounds = record {
+        all = λ complete. ap (λ (c : Counts). c.faults + c.sweep) counts ∙ all_counted total (sym saved ∙ complete);
+        most = (let m = ends.limits.most in
+            let c = ap (λ (c : Counts). c.faults + c.sweep) counts in
+            omega (arith, m, c, total));
+        faults = record {
+          flags = saver.faulted;
+          counted = ap (λ (c : Counts). c.faults) counts ∙ ends.limits.faults;
+          each = λ p set. subst (λ (m : MachineData). IsWritten m out.order.members p) started (closes.picked pending p (ends.keeps.save.picked p set));
+        };
+        calm = λ none. blocked ∙ ap (λ s. min s (2 ^ 64 - 1)) (none_summed new (closes.calm pending (subst (λ (m : MachineData). NoneWritten m out.order.members) (sym started) none)));
       };
-      calm = λ none. blocked ∙ ap (λ s. min s (2 ^ 64 - 1)) (none_summed new (closes.calm pending (subst (λ (m : MachineData). NoneWritten m out.order.members) (sym started) none)));
     }
   where
     all_counted : total_of saver ≡ total_pages_of i.shape → Some end ≡ Some Complete → saver.counts.faults + saver.counts.sweep ≡ total_pages_of i.shape

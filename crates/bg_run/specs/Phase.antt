@@ -28,16 +28,20 @@ pub record AreWritten (i : MachineData) (o : List ℕ) (count : ℕ) : Type 0 wh
   pub counted : count ≡ count_by (λ flag. flag) flags
   pub each : (p : ℕ) → slice_get flags p ≡ Some true → IsWritten i o p
 
--- The save of machine i that ran beside it ended as its saver did, and counted as it did: each page once it is complete.
--- Only pages that events write to count as faults, and no vCPU was stopped where events write to none.
-pub record EndsSaved (i : MachineData) (saver : SaverData) (out : PhaseOut) : Type 0 where
-  pub ended : (out.saved ≡ None) → ⊥
-  pub saved : out.saved ≡ saver.end
-  pub counts : out.counts ≡ saver.counts
+-- What the counts of a save that ran beside the phase from machine i are bound by: each page is counted once it is complete,
+-- only pages that events write to count as faults, and no vCPU was stopped where events write to none.
+pub record IsBounded (i : MachineData) (out : PhaseOut) : Type 0 where
   pub all : out.saved ≡ Some Complete → out.counts.faults + out.counts.sweep ≡ total_pages_of i.shape
   pub most : out.counts.faults + out.counts.sweep ≤ total_pages_of i.shape
   pub faults : AreWritten i out.order.members out.counts.faults
   pub calm : NoneWritten i out.order.members → out.blocked ≡ 0
+
+-- the save of machine i that ran beside it ended as its saver did, and counted as it did, within these bounds
+pub record EndsSaved (i : MachineData) (saver : SaverData) (out : PhaseOut) : Type 0 where
+  pub ended : (out.saved ≡ None) → ⊥
+  pub saved : out.saved ≡ saver.end
+  pub counts : out.counts ≡ saver.counts
+  pub bounds : IsBounded i out
 
 -- no save ran beside it: nothing was saved or counted, and no vCPU was stopped
 pub record EndsAlone (out : PhaseOut) : Type 0 where

@@ -2,8 +2,6 @@
 #![tactic(auto)]
 
 #[cfg(test)]
-mod meeting;
-#[cfg(test)]
 mod phase;
 #[cfg(test)]
 mod phases;
