@@ -1,0 +1,7 @@
+pub mod CopyEnd
+pub mod Inlet
+pub mod Opening
+pub mod Outlet
+pub mod Rule
+pub mod WriteEnd
+pub mod WriteLaws
