@@ -9,5 +9,5 @@ mod orders;
 
 pub use compare::{Differs, answer_difference, difference, difference_of};
 pub use files::{Fails, Files, Outcome, words};
-pub use line::{LINE, Line, READER, answer, work_on};
+pub use line::{LINE, Line, READER, answer, answer_on_threads, work_on};
 pub use orders::is_order;

@@ -1,8 +1,10 @@
 use crate::files::{Fails, Files, Outcome, words};
 use medium::{MemMedium, MemSink, MemSource};
-use ram_block::NoMemory;
+use ram_block::{Gate, NoMemory};
 use std::alloc::Global;
-use vm_cli::{Fault, rvsnap_still};
+use std::sync::Wait;
+use std::thread::Threads;
+use vm_cli::{Fault, rvsnap, rvsnap_still};
 
 /// How many of the writes of a file may wait for a sync.
 const WRITES: usize = 600;
@@ -93,6 +95,28 @@ pub fn answer(alloc: Global, line: &Line) -> Result<Outcome, NoMemory> {
         &mut files.input,
         &mut files.output,
         &mut files.console,
+    );
+    Ok(Outcome { answer, files })
+}
+
+/// The answer to a line, by the call with threads, which tells this gate.
+pub fn answer_on_threads<R: Threads + Wait + Sync, G: Gate>(
+    rt: &R,
+    alloc: Global,
+    line: &Line,
+    gate: &G,
+) -> Result<Outcome, NoMemory> {
+    let words = words(alloc, line.words)?;
+    let mut files = work_on(alloc, line)?;
+    let answer = rvsnap(
+        rt,
+        alloc,
+        &words,
+        &mut files.image,
+        &mut files.input,
+        &mut files.output,
+        &mut files.console,
+        gate,
     );
     Ok(Outcome { answer, files })
 }

@@ -4,14 +4,14 @@ use Rattle.medium.specs.Bytes.{AddsFront, BecomesTold}
 use Rattle.medium.specs.States.{SinkState}
 use Rattle.vm_cli.specs.Ends.{Ends}
 use Rattle.vm_cli.specs.FaultLine.{fault_line}
-use Rattle.vm_cli.specs.Jobs.Common.{Prints, PrintsBehind, PrintsLine, PrintsReport, Takes, TakesReport, TakesWhole}
+use Rattle.vm_cli.specs.Jobs.Common.{EndsLine, Prints, PrintsBehind, PrintsLine, PrintsReport, Takes, TakesReport, TakesWhole}
 use Rattle.vm_cli.specs.Outside.{End, Outside, Same, faults_of}
 use Rattle.vm_cli.specs.Steps.{Console, Faults, HasCause, HasFailed, Image, Input, Object, Output}
 use Rattle.vm_cli.specs.Words.{served_line}
 use Rattle.vm_cli.specs.Work.{Does, Fails, Keeps, KeepsOthers, StopsEarly, Works, steps_of}
 use Rattle.vm_cli.specs.declared.answer.Fault.{Fault}
 use Rattle.vm_cli.specs.declared.words.Caller.{Caller}
-use Rattle.vm_cli.specs.Served.{Assembly, CheckFile, LazyRestore, Peek, Restore, Save, Served, Workload}
+use Rattle.vm_cli.specs.Served.{Assembly, CheckFile, Join, Layer, LazyRestore, Peek, Record, Replay, Restore, Save, Served, Workload}
 use Rattle.vm_cli.proofs.Causes.{cause_later, ends_as_called_for}
 use Rattle.vm_cli.proofs.Lines.{LineBehind, fronts, printed_behind, reported_later}
 
@@ -38,6 +38,10 @@ done_well (Some (Restore n)) old new first second did = record { after = did.aft
 done_well (Some (LazyRestore n)) old new first second did = record { pages = did.pages; after = did.after; phase = did.phase; printed = did.printed }
 done_well (Some (Peek shape at len)) old new first second did = record { bytes = did.bytes; range = did.range; printed = did.printed }
 done_well (Some (Workload seed)) old new first second did = record { saved = did.saved; checked = did.checked; shape = did.shape; printed = did.printed }
+done_well (Some (Layer n)) old new first second did = record { base = did.base; after = did.after; phase = did.phase; rest = did.rest; wrote = did.wrote; printed = did.printed }
+done_well (Some Join) old new first second did = record { machine = did.machine; joined = did.joined; file = did.file; crash = did.crash; full = did.full; printed = did.printed }
+done_well (Some (Record shape n serial)) old new first second did = record { image = did.image; taken = did.taken; after = did.after; ran = did.ran; wrote = did.wrote; printed = did.printed }
+done_well (Some (Replay shape serial)) old new first second did = record { image = did.image; taken = did.taken; read = did.read; after = did.after; ran = did.ran; printed = did.printed }
 
 -- the outside at the end of a job's work, before the line of its fault
 abbrev pub before_line : Outside → SinkState → Outside
@@ -60,6 +64,14 @@ done_badly (Some (LazyRestore n)) old new mid fault first second line did = reco
 done_badly (Some (Peek shape at len)) old new mid fault first second line did = record { bytes = did.bytes; range = did.range; printed = fronts _ _ _ _ _ did.printed line }
 done_badly (Some (Workload seed)) old new mid fault first second line did =
     record { saved = did.saved; checked = did.checked; shape = did.shape; printed = fronts _ _ _ _ _ did.printed line }
+done_badly (Some (Layer n)) old new mid fault first second line did =
+    record { base = did.base; after = did.after; phase = did.phase; rest = did.rest; wrote = did.wrote; printed = fronts _ _ _ _ _ did.printed line }
+done_badly (Some Join) old new mid fault first second line did =
+    record { machine = did.machine; joined = did.joined; file = did.file; crash = did.crash; full = did.full; printed = fronts _ _ _ _ _ did.printed line }
+done_badly (Some (Record shape n serial)) old new mid fault first second line did =
+    record { image = did.image; taken = did.taken; after = did.after; ran = did.ran; wrote = did.wrote; printed = fronts _ _ _ _ _ did.printed line }
+done_badly (Some (Replay shape serial)) old new mid fault first second line did =
+    record { image = did.image; taken = did.taken; read = did.read; after = did.after; ran = did.ran; printed = fronts _ _ _ _ _ did.printed line }
 
 early_later : (served : Option Served) (old new : Outside) (mid : SinkState) (same : Same) (silent : Type 0) (end : End) → StopsEarly served old (before_line new mid) (same_before same silent) end
     → StopsEarly served old new same end
@@ -71,6 +83,10 @@ early_later (Some (Restore n)) old new mid same silent end early = early
 early_later (Some (LazyRestore n)) old new mid same silent end early = early
 early_later (Some (Peek shape at len)) old new mid same silent end early = early
 early_later (Some (Workload seed)) old new mid same silent end early = early
+early_later (Some (Layer n)) old new mid same silent end early = early
+early_later (Some Join) old new mid same silent end early = early
+early_later (Some (Record shape n serial)) old new mid same silent end early = early
+early_later (Some (Replay shape serial)) old new mid same silent end early = early
 
 -- the line of a fault behind a report
 failed_later : (served : Option Served) (old new : Outside) (mid : SinkState) (fault : Fault) (end : End) → LineBehind fault old.console mid new.console
@@ -83,6 +99,10 @@ failed_later (Some CheckFile) old new mid fault end line failed is = absurd fail
 failed_later (Some (Restore n)) old new mid fault end line failed is = absurd failed
 failed_later (Some (LazyRestore n)) old new mid fault end line failed is = absurd failed
 failed_later (Some (Peek shape at len)) old new mid fault end line failed is = absurd failed
+failed_later (Some (Layer n)) old new mid fault end line failed is = absurd failed
+failed_later (Some Join) old new mid fault end line failed is = absurd failed
+failed_later (Some (Record shape n serial)) old new mid fault end line failed is = absurd failed
+failed_later (Some (Replay shape serial)) old new mid fault end line failed is = absurd failed
 failed_later (Some (Workload seed)) old new mid fault end line (inl failed) is = inl (reported_later _ _ _ _ _ _ _ fault end line failed is)
 failed_later (Some (Workload seed)) old new mid fault end line (inr failed) is =
     inr (record { of_load = failed.of_load; saved = failed.saved; printed = printed_behind fault _ _ _ _ line failed.printed })
@@ -97,6 +117,10 @@ others_later (Some (Restore n)) old new mid same silent others = record { input 
 others_later (Some (LazyRestore n)) old new mid same silent others = record { input = others.input; image = others.image; output = others.output }
 others_later (Some (Peek shape at len)) old new mid same silent others = record { input = others.input; image = others.image; output = others.output }
 others_later (Some (Workload seed)) old new mid same silent others = record { image = others.image; input = others.input }
+others_later (Some (Layer n)) old new mid same silent others = record { input = others.input; image = others.image }
+others_later (Some Join) old new mid same silent others = others
+others_later (Some (Record shape n serial)) old new mid same silent others = others
+others_later (Some (Replay shape serial)) old new mid same silent others = record { input = others.input; output = others.output }
 
 kept_later : (served : Option Served) (old new : Outside) (mid : SinkState) (same : Same) (silent : Type 0) (fault : Option Fault)
     → Keeps served old (before_line new mid) (same_before same silent) fault → Keeps served old new same fault
@@ -121,21 +145,21 @@ end_by caller words old new same f g a b x y fault first second ends =
     (subst (λ (o : List ℕ). Ends caller words old new same (record { fault = f; first = a; second = o })) (sym second) ends))
 
 -- of a job that ended well
-pub ends_well : (caller : Caller) (words : List (List ℕ)) (old new : Outside) (same : Same) (first second : List ℕ) → HasCause (faults_of old) (faults_of new) (steps_of caller words old) None
-    → Works (served_line words) old new same (record { fault = None; first = first; second = second })
+ends_well : (caller : Caller) (words : List (List ℕ)) (old new : Outside) (same : Same) (silent : Type 0) (first second : List ℕ) → HasCause (faults_of old) (faults_of new) (steps_of caller words old) None
+    → Works (served_line words) old new (same_before same silent) (record { fault = None; first = first; second = second })
     → Ends caller words old new same (record { fault = None; first = first; second = second })
-ends_well caller words old new same first second cause works = record {
+ends_well caller words old new same silent first second cause works = record {
   cause = cause;
   complete = ends_as_called_for (faults_of old) (faults_of new) (steps_of caller words old) None cause;
   done = λ _. done_well (served_line words) old new first second (works.done tt);
   failed = λ fault is other. cc is;
   orders = works.orders;
-  kept = works.kept;
+  kept = kept_later (served_line words) old new new.console same silent None works.kept;
   crash = works.crash;
 }
 
 -- of a job that ended with a fault, whose line was printed behind what the console had taken
-pub ends_badly : (caller : Caller) (words : List (List ℕ)) (old new : Outside) (mid : SinkState) (same : Same) (silent : Type 0) (first second : List ℕ) (fault : Fault)
+ends_badly : (caller : Caller) (words : List (List ℕ)) (old new : Outside) (mid : SinkState) (same : Same) (silent : Type 0) (first second : List ℕ) (fault : Fault)
     → mid.faults ≤ new.console.faults → HasCause (faults_of old) (faults_of (before_line new mid)) (steps_of caller words old) (Some fault)
     → Works (served_line words) old (before_line new mid) (same_before same silent) (record { fault = Some fault; first = first; second = second })
     → PrintsLine fault mid new.console → BecomesTold (AddsFront (fault_line fault)) mid.taken new.console.taken → (silent → mid ≡ old.console)
@@ -164,3 +188,17 @@ ends_badly caller words old new mid same silent first second fault more cause wo
       kept = kept_later (served_line words) old new mid same silent (Some fault) works.kept;
       crash = works.crash;
     }
+
+-- of a job whose work ended so, by what was printed behind it
+pub ends_by : (caller : Caller) (words : List (List ℕ)) (old new : Outside) (mid : SinkState) (same : Same) (silent stays : Type 0) (first second : List ℕ) (end : Option Fault)
+    → HasCause (faults_of old) (faults_of (before_line new mid)) (steps_of caller words old) end
+    → Works (served_line words) old (before_line new mid) (same_before same silent) (record { fault = end; first = first; second = second })
+    → EndsLine stays end mid new.console → (silent → mid ≡ old.console) → (stays → new.console ≡ mid)
+    → Ends caller words old new same (record { fault = end; first = first; second = second })
+ends_by caller words old new mid same silent stays first second None cause works line still is =
+    let it = is line in
+    ends_well caller words old new same silent first second
+    (subst (λ (k : SinkState). HasCause (faults_of old) (faults_of (before_line new k)) (steps_of caller words old) None) (sym it) cause)
+    (subst (λ (k : SinkState). Works (served_line words) old (before_line new k) (same_before same silent) (record { fault = None; first = first; second = second })) (sym it) works)
+ends_by caller words old new mid same silent stays first second (Some fault) cause works line still is =
+    ends_badly caller words old new mid same silent first second fault line.more cause works line.printed line.front still

@@ -1,12 +1,15 @@
 -- The work of a job by the job of its line, and of a line that isn't served.
-use Rattle.std.proofs.Common.{◌≡◌, ◌⊎◌, inl, inr, ℕ, ◌<◌, List, [], length, Option, Some, None, Result, Ok, Err, refl, sym, ap, subst, arith}
+use Rattle.std.proofs.Common.{◌≡◌, ◌⊎◌, inl, inr, ℕ, zero, suc, ◌+◌, ◌<◌, ◌≤◌, List, [], length, Option, Some, None, Result, Ok, Err, refl, sym, ap, subst, arith}
 use Rattle.std.specs.Prelude.{true, is_some, IsErr, IsErrAnd}
 use Rattle.vm_words.specs.Limits.{IsSave}
+use Rattle.vm_words.specs.declared.job.Job.{Job}
 use Rattle.vm_words.specs.declared.job.Job.TheVariants as jobs
 use Rattle.vm_words.specs.declared.job.Mode.{Mode}
-use Rattle.vm_words.specs.declared.job.Mode.TheVariants.{Sliced, Threads}
+use Rattle.vm_words.specs.declared.job.Mode.TheVariants as modes
 use Rattle.vm_words.specs.declared.turns.TurnOf.{TurnOf}
 use Rattle.image_file.specs.Image.{ReadsOn}
+use Rattle.image_file.specs.declared.raw.TheConstants.{MOST_IMAGE}
+use Rattle.bg_saver.specs.declared.save_end.SaveEnd.TheVariants.{Complete}
 use Rattle.image_file.proofs.Reading.{reads_none}
 use Rattle.medium.specs.Members.{file_state}
 use Rattle.medium.specs.States.{FileState, Leaves, SourceState}
@@ -14,19 +17,23 @@ use Rattle.medium.specs.declared.readable.Readable as readable
 use Rattle.medium.proofs.Leaves.{leaves_same}
 use Rattle.vm_cli.specs.Answer.{fault_in}
 use Rattle.vm_cli.specs.Images.{IsCrashSafe}
-use Rattle.vm_cli.specs.Jobs.Common.{TakesReport, TakesWhole}
-use Rattle.vm_cli.specs.Jobs.Save.{EndsEarly, IsBeforePhases, ReadsImage, ReportsFailed}
+use Rattle.vm_cli.specs.Jobs.Common.{Takes, TakesReport, TakesWhole}
+use Rattle.vm_cli.specs.Jobs.Boot.{ReadsImage}
+use Rattle.vm_cli.specs.Jobs.Join.{IsBeforeJoin}
+use Rattle.vm_cli.specs.Jobs.Layer.{IsBeforePhase}
+use Rattle.vm_cli.specs.Jobs.Save.{EndsEarly, IsBeforePhases, ReportsFailed, SavesMachine, report_of}
 use Rattle.vm_cli.specs.Outside.{End, Outside, Same}
 use Rattle.vm_cli.specs.Steps.{Faults, HasCause}
-use Rattle.vm_cli.specs.Words.{IsFaultOfLine, line_fault, served_line, served_of}
-use Rattle.vm_cli.specs.Work.{Fails, IsBeforeOutput, IsNotConsole, IsNotEmpty, IsWorkDone, KeepsOthers, StopsEarly, Works, steps_behind, steps_of, words_step}
+use Rattle.vm_cli.specs.Words.{IsFaultOfLine, IsOnOneThread, forbidden_word, line_fault, served_line, served_of}
+use Rattle.vm_cli.specs.Work.{Fails, IsBeforeOutput, IsNotConsole, IsNotEmpty, IsUsage, IsWorkDone, KeepsOthers, StopsEarly, Works, steps_behind, steps_of, words_step}
 use Rattle.vm_cli.specs.Write.{IsBeforeConsole, KeepsFull}
 use Rattle.vm_cli.specs.declared.answer.Fault.{Fault}
 use Rattle.vm_cli.specs.declared.answer.Fault.TheVariants as faults
 use Rattle.vm_cli.specs.declared.words.Caller.{Caller}
+use Rattle.vm_cli.specs.declared.words.Caller.TheVariants.{Still}
 use Rattle.flat_machine.specs.Machine.{boot}
 use Rattle.ram_block.specs.Shape.{ShapeData}
-use Rattle.vm_cli.specs.Served.{Assembly, CheckFile, LazyRestore, Peek, Restore, Save, Served, SlicedPhases, Workload}
+use Rattle.vm_cli.specs.Served.{Assembly, CheckFile, Join, Layer, LazyRestore, OnThreads, Peek, Record, Replay, Restore, Save, SavePhases, Served, Sliced, Workload}
 use Rattle.vm_cli.proofs.Causes.{always, passed}
 
 -- ---- Nothing was done
@@ -64,17 +71,25 @@ fault_cause old new caller words it faults.NotYet is = inr (inr (inl (refl, is))
 fault_cause old new caller words it faults.NoMemory is = inl refl
 fault_cause old new caller words it _ is = absurd is
 
--- a line that is served leaves the cause to the steps of its job
-pub served_cause : (old new : Faults) (caller : Caller) (words : List (List ℕ)) (served : Served) (it : Outside) (end : Option Fault)
-    → line_fault caller words ≡ None → served_line words ≡ Some served → HasCause old new (steps_behind (Some served) it) end
+-- a line that isn't refused leaves the cause to the steps of its job
+pub served_cause : (old new : Faults) (caller : Caller) (words : List (List ℕ)) (served : Option Served) (it : Outside) (end : Option Fault)
+    → line_fault caller words ≡ None → served_line words ≡ served → HasCause old new (steps_behind served it) end
     → HasCause old new (steps_of caller words it) end
 served_cause old new caller words served it end none is cause =
     passed old new (words_step caller words) _ end none (subst (λ (s : Option Served). HasCause old new (steps_behind s it) end) (sym is) cause)
 
 -- and its work to that of its job
-pub served_works : (words : List (List ℕ)) (served : Served) (old new : Outside) (same : Same) (end : End) → served_line words ≡ Some served
-    → Works (Some served) old new same end → Works (served_line words) old new same end
+pub served_works : (words : List (List ℕ)) (served : Option Served) (old new : Outside) (same : Same) (end : End) → served_line words ≡ served
+    → Works served old new same end → Works (served_line words) old new same end
 served_works words served old new same end is works = subst (λ (s : Option Served). Works s old new same end) (sym is) works
+
+-- the same of a job, where it is known which it is
+pub job_cause : (old new : Faults) (job : Job) (served : Served) (it : Outside) (end : Option Fault) → served_of job ≡ Some served → HasCause old new (steps_behind (Some served) it) end
+    → HasCause old new (steps_behind (served_of job) it) end
+job_cause old new job served it end is cause = subst (λ (s : Option Served). HasCause old new (steps_behind s it) end) (sym is) cause
+
+pub job_works : (job : Job) (served : Served) (old new : Outside) (same : Same) (end : End) → served_of job ≡ Some served → Works (Some served) old new same end → Works (served_of job) old new same end
+job_works job served old new same end is works = subst (λ (s : Option Served). Works s old new same end) (sym is) works
 
 -- the words end a job before all its work
 line_ends : (caller : Caller) (words : List (List ℕ)) (fault : Fault) (P : Type 0) → IsFaultOfLine caller words fault → IsWorkDone (Some fault) → P
@@ -83,23 +98,55 @@ line_ends caller words faults.NotYet P is done = absurd done
 line_ends caller words faults.NoMemory P is done = absurd done
 line_ends caller words _ P is done = absurd is
 
--- and come before each phase
-line_early : (caller : Caller) (words : List (List ℕ)) (fault : Fault) → IsFaultOfLine caller words fault → IsBeforePhases (Some fault)
+-- an end with a fault that a line may have before its job
+abbrev pub IsOfLine : Option Fault → Type 0
+IsOfLine (Some (faults.Usage index kind)) = Unit {0}
+IsOfLine (Some faults.NotYet) = Unit {0}
+IsOfLine (Some faults.NoMemory) = Unit {0}
+IsOfLine _ = ⊥
+
+line_early : (caller : Caller) (words : List (List ℕ)) (fault : Fault) → IsFaultOfLine caller words fault → IsOfLine (Some fault)
 line_early caller words (faults.Usage index kind) is = tt
 line_early caller words faults.NotYet is = tt
 line_early caller words faults.NoMemory is = tt
 line_early caller words _ is = absurd is
 
+-- comes before each phase, and before base and layer are joined
+before_phases : (end : Option Fault) → IsOfLine end → IsBeforePhases end
+before_phases None is = absurd is
+before_phases (Some (faults.Usage index kind)) is = tt
+before_phases (Some faults.NotYet) is = tt
+before_phases (Some faults.NoMemory) is = tt
+before_phases (Some _) is = absurd is
+
+before_layer : (file : FileState) (end : Option Fault) → IsOfLine end → IsBeforePhase file file end
+before_layer file None is = absurd is
+before_layer file (Some (faults.Usage index kind)) is = tt
+before_layer file (Some faults.NotYet) is = tt
+before_layer file (Some faults.NoMemory) is = tt
+before_layer file (Some _) is = absurd is
+
+before_join : (file : FileState) (end : Option Fault) → IsOfLine end → IsBeforeJoin file file end
+before_join file None is = absurd is
+before_join file (Some (faults.Usage index kind)) is = tt
+before_join file (Some faults.NotYet) is = tt
+before_join file (Some faults.NoMemory) is = tt
+before_join file (Some _) is = absurd is
+
 -- so nothing was done
-stops_at_line : (served : Option Served) (it : Outside) (same : Same) (end : End) → IsBeforePhases end.fault → end.first ≡ [] → end.second ≡ [] → same.output → StopsEarly served it it same end
+stops_at_line : (served : Option Served) (it : Outside) (same : Same) (end : End) → IsOfLine end.fault → end.first ≡ [] → end.second ≡ [] → same.output → StopsEarly served it it same end
 stops_at_line None it same end early first second output = first
-stops_at_line (Some (Save shape input phases)) it same end early first second output = inl (early, record { first = first; second = second; output = output })
+stops_at_line (Some (Save shape input phases)) it same end early first second output = inl (before_phases end.fault early, record { first = first; second = second; output = output })
 stops_at_line (Some Assembly) it same end early first second output = first
 stops_at_line (Some CheckFile) it same end early first second output = first
 stops_at_line (Some (Restore n)) it same end early first second output = first
 stops_at_line (Some (LazyRestore n)) it same end early first second output = inl first
 stops_at_line (Some (Peek shape at len)) it same end early first second output = first
-stops_at_line (Some (Workload seed)) it same end early first second output = inl (early, record { first = first; second = second; output = output })
+stops_at_line (Some (Workload seed)) it same end early first second output = inl (before_phases end.fault early, record { first = first; second = second; output = output })
+stops_at_line (Some (Layer n)) it same end early first second output = inl (record { before = before_layer it.input end.fault early; first = first; output = output })
+stops_at_line (Some Join) it same end early first second output = inl (before_join it.input end.fault early, output)
+stops_at_line (Some (Record shape n serial)) it same end early first second output = inl (before_phases end.fault early, first)
+stops_at_line (Some (Replay shape serial)) it same end early first second output = first
 
 others_stay : (served : Option Served) (it : Outside) (same : Same) → same.image → same.input → same.output → KeepsOthers served it it same
 others_stay None it same image input output = input
@@ -110,6 +157,10 @@ others_stay (Some (Restore n)) it same image input output = record { input = lea
 others_stay (Some (LazyRestore n)) it same image input output = record { input = leaves_same it.input; image = image; output = output }
 others_stay (Some (Peek shape at len)) it same image input output = record { input = leaves_same it.input; image = image; output = output }
 others_stay (Some (Workload seed)) it same image input output = record { image = image; input = input }
+others_stay (Some (Layer n)) it same image input output = record { input = leaves_same it.input; image = image }
+others_stay (Some Join) it same image input output = leaves_same it.input
+others_stay (Some (Record shape n serial)) it same image input output = input
+others_stay (Some (Replay shape serial)) it same image input output = record { input = leaves_same it.input; output = output }
 
 -- the work of a line that isn't served: none
 fault_works : (caller : Caller) (words : List (List ℕ)) (served : Option Served) (it : Outside) (same : Same) (fault : Fault) (first second : List ℕ)
@@ -156,27 +207,69 @@ undone_fault None fault is other done = cc is
 undone_fault (Some faults.ConsoleFault) fault is other done = let same : faults.ConsoleFault ≡ fault = cc is in subst IsNotConsole (sym same) other
 undone_fault (Some _) fault is other done = done
 
+-- a line that starts no thread is a job that needs none
+pub still_allows : (words : List (List ℕ)) (job : Job) → forbidden_word Still words job ≡ None → IsOnOneThread job
+still_allows words (jobs.Save shape stop run modes.Threads turns serial relay) none = cc none
+still_allows words (jobs.Save shape stop run modes.Sliced turns serial relay) none = tt
+still_allows words (jobs.Record shape run input) none = cc none
+still_allows words _ none = tt
+
 -- ---- A save
 
--- a save that is served has turns of its own
-pub served_save : (shape : ShapeData) (stop run : ℕ) (mode : Mode) (turns : List TurnOf) (serial : List ℕ) (relay : ℕ) → is_some (served_of (jobs.Save shape stop run mode turns serial relay)) ≡ true
-    → served_of (jobs.Save shape stop run mode turns serial relay) ≡ Some (Save shape serial (record { stop = stop; run = run; turns = turns }))
-served_save shape stop run Sliced turns serial relay is = refl
-served_save shape stop run Threads turns serial relay is = cc is
+-- what the words allow of a save on one thread, and which job it is
+pub save_limits : (shape : ShapeData) (stop run : ℕ) (mode : Mode) (turns : List TurnOf) (serial : List ℕ) (relay : ℕ) → IsOnOneThread (jobs.Save shape stop run mode turns serial relay)
+    → IsSave shape stop run mode turns serial relay → IsSave shape stop run modes.Sliced turns serial 0
+save_limits shape stop run modes.Sliced turns serial relay is limits = subst (λ n. IsSave shape stop run modes.Sliced turns serial n) (limits.relay_unused refl) limits
+save_limits shape stop run modes.Threads turns serial relay is limits = absurd is
 
--- what the words allow of it
-pub save_limits : (shape : ShapeData) (stop run : ℕ) (mode : Mode) (turns : List TurnOf) (serial : List ℕ) (relay : ℕ) → is_some (served_of (jobs.Save shape stop run mode turns serial relay)) ≡ true
-    → IsSave shape stop run mode turns serial relay → IsSave shape stop run Sliced turns serial 0
-save_limits shape stop run Sliced turns serial relay is limits = subst (λ n. IsSave shape stop run Sliced turns serial n) (limits.relay_unused refl) limits
-save_limits shape stop run Threads turns serial relay is limits = cc is
+pub served_save : (shape : ShapeData) (stop run : ℕ) (mode : Mode) (turns : List TurnOf) (serial : List ℕ) (relay : ℕ) → IsOnOneThread (jobs.Save shape stop run mode turns serial relay)
+    → served_of (jobs.Save shape stop run mode turns serial relay) ≡ Some (Save shape serial (record { stop = stop; run = run; way = Sliced turns }))
+served_save shape stop run modes.Sliced turns serial relay is = refl
+served_save shape stop run modes.Threads turns serial relay is = absurd is
+
+-- the same of one on threads
+pub threads_limits : (shape : ShapeData) (stop run : ℕ) (turns : List TurnOf) (serial : List ℕ) (relay : ℕ) → is_some (served_of (jobs.Save shape stop run modes.Threads turns serial relay)) ≡ true
+    → IsSave shape stop run modes.Threads turns serial relay → IsSave shape stop run modes.Threads [] serial 0
+threads_limits shape stop run turns serial zero is limits = subst (λ l. IsSave shape stop run modes.Threads l serial 0) (limits.turns_unused refl) limits
+threads_limits shape stop run turns serial (suc relay) is limits = cc is
+
+pub served_on_threads : (shape : ShapeData) (stop run : ℕ) (turns : List TurnOf) (serial : List ℕ) (relay : ℕ) → is_some (served_of (jobs.Save shape stop run modes.Threads turns serial relay)) ≡ true
+    → served_of (jobs.Save shape stop run modes.Threads turns serial relay) ≡ Some (Save shape serial (record { stop = stop; run = run; way = OnThreads }))
+served_on_threads shape stop run turns serial zero is = refl
+served_on_threads shape stop run turns serial (suc relay) is = cc is
 
 -- how it ended, told of the outside
-pub save_failed : (shape : ShapeData) (serial : List ℕ) (phases : SlicedPhases) (old new : Outside) (same_output silent : Type 0) (fault : Fault) (end : End)
+save_failed : (shape : ShapeData) (serial : List ℕ) (phases : SavePhases) (old new : Outside) (same_output silent : Type 0) (fault : Fault) (end : End)
     → (EndsEarly shape serial phases old.image new.image same_output old.output new.output end × silent)
     ⊎ ((bytes : List ℕ) × ReadsImage shape bytes old.image new.image × ReportsFailed TakesReport (boot shape bytes serial) phases old.output new.output old.console new.console end)
     → (EndsEarly shape serial phases old.image new.image same_output old.output new.output end × silent) ⊎ Fails TakesReport TakesWhole (Some (Save shape serial phases)) fault old new end
 save_failed shape serial phases old new same_output silent fault end (inl early) = inl early
 save_failed shape serial phases old new same_output silent fault end (inr failed) = inr (record { image = failed.0; taken = failed.1; reported = failed.2 })
+
+-- its work
+pub save_works : (shape : ShapeData) (serial : List ℕ) (phases : SavePhases) (old new : Outside) (same : Same) (end : End) → same.input
+    → (IsWorkDone end.fault → (bytes : List ℕ) × ReadsImage shape bytes old.image new.image
+    × (saved : SavesMachine (boot shape bytes serial) phases old.output new.output end) × Takes end.fault (report_of Complete saved.out) old.console new.console)
+    → ((fault : Fault) → end.fault ≡ Some fault → IsNotConsole fault → (EndsEarly shape serial phases old.image new.image same.output old.output new.output end × same.console)
+    ⊎ ((bytes : List ℕ) × ReadsImage shape bytes old.image new.image × ReportsFailed TakesReport (boot shape bytes serial) phases old.output new.output old.console new.console end))
+    → (IsUsage end.fault → ⊥) → ReadsOn (MOST_IMAGE + 1) old.image new.image → (IsNotEmpty end.fault → Leaves old.output new.output) → KeepsFull old.output new.output
+    → old.console.faults ≤ new.console.faults → Works (Some (Save shape serial phases)) old new same end
+save_works shape serial phases old new same end input done failed words read not_empty full count = record {
+  done = λ ended. let saved = done ended in record { image = saved.0; taken = saved.1; saved = saved.2; printed = saved.3 };
+  failed = λ fault is other. save_failed shape serial phases old new same.output same.console fault end (failed fault is other);
+  orders = record { first = λ none. absurd none; second = λ none. absurd none };
+  kept = record {
+    others = input;
+    input = λ _. input;
+    image = λ usage. absurd (words usage);
+    read = read;
+    output = λ usage. absurd (words usage);
+    not_empty = not_empty;
+    full = full;
+  };
+  crash = λ usage. absurd (words usage);
+  count = count;
+}
 
 -- an end with a fault that isn't the console's comes before its first call
 pub before_console : (end : Option Fault) (fault : Fault) → end ≡ Some fault → IsNotConsole fault → IsBeforeConsole end

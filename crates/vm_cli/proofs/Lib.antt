@@ -5,7 +5,11 @@ pub mod LazyEnds
 pub mod Peeks
 pub mod PeekEnds
 pub mod Loads
-pub mod Boot
+pub mod LayerEnds
+pub mod Joins
+pub mod Boots
+pub mod Records
+pub mod Replays
 pub mod Saves
 pub mod SaveEnds
 pub mod SaveImages

@@ -11,7 +11,7 @@ use Rattle.vm_cli.specs.Outside.{End}
 use Rattle.vm_cli.specs.Parts.{AddsBehind, AddsFronts}
 use Rattle.vm_cli.specs.declared.answer.Fault.{Fault}
 use Rattle.vm_cli.specs.declared.answer.Fault.TheVariants as faults
-use Rattle.vm_cli.specs.Served.{SlicedPhases}
+use Rattle.vm_cli.specs.Served.{SavePhases}
 
 -- ---- Texts one behind the other
 
@@ -62,7 +62,7 @@ printed_behind fault text old mid new line whole = elim (line.line) as (λ _. Pr
 ]
 
 -- the report of a save that failed
-pub reported_later : (b : MachineData) (phases : SlicedPhases) (old new : FileState) (console mid console_now : SinkState) (fault : Fault) (end : End) → LineBehind fault console mid console_now
+pub reported_later : (b : MachineData) (phases : SavePhases) (old new : FileState) (console mid console_now : SinkState) (fault : Fault) (end : End) → LineBehind fault console mid console_now
     → ReportsFailed TakesReport b phases old new console mid end → end.fault ≡ Some fault → ReportsFailed PrintsReport b phases old new console console_now end
 reported_later b phases old new console mid console_now fault end line reported is =
     let same : fault ≡ faults.FileFault = cc (sym is ∙ reported.failed.fault) in

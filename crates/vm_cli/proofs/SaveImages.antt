@@ -5,9 +5,10 @@ use Rattle.flat_machine.specs.Machine.{MachineData, boot}
 use Rattle.medium.specs.States.{FileState, SinkState, SourceState}
 use Rattle.ram_block.specs.Shape.{ShapeData}
 use Rattle.vm_cli.specs.Jobs.Common.{Takes, TakesReport}
-use Rattle.vm_cli.specs.Jobs.Save.{BootsImage, EndsAtInstant, EndsEarly, IsBeforePhases, IsOfImage, LeavesMachine, ReadsImage, ReportsFailed, SavesMachine, report_of}
+use Rattle.vm_cli.specs.Jobs.Boot.{BootsImage, IsOfImage, ReadsImage}
+use Rattle.vm_cli.specs.Jobs.Save.{EndsAtInstant, EndsEarly, IsBeforePhases, LeavesMachine, ReportsFailed, SavesMachine, report_of}
 use Rattle.vm_cli.specs.Outside.{End}
-use Rattle.vm_cli.specs.Served.{SlicedPhases}
+use Rattle.vm_cli.specs.Served.{SavePhases}
 use Rattle.vm_cli.specs.Work.{IsNotEmpty, IsUsage, IsWorkDone}
 use Rattle.vm_cli.specs.declared.answer.Fault.{Fault}
 use Rattle.vm_cli.specs.declared.answer.Fault.TheVariants as faults
@@ -47,7 +48,7 @@ some_at_image end fault P is of full = image_some fault P of (subst IsNotEmpty i
 
 -- ---- The machine that boots
 
-pub image_done : (shape : ShapeData) (serial : List ℕ) (phases : SlicedPhases) (image image_now : SourceState) (old new : FileState) (console console_now : SinkState) (end : End) (b : MachineData)
+pub image_done : (shape : ShapeData) (serial : List ℕ) (phases : SavePhases) (image image_now : SourceState) (old new : FileState) (console console_now : SinkState) (end : End) (b : MachineData)
     → BootsImage shape serial image image_now b → (saved : SavesMachine b phases old new end) × Takes end.fault (report_of Complete saved.out) console console_now
     → (bytes : List ℕ) × ReadsImage shape bytes image image_now × (saved : SavesMachine (boot shape bytes serial) phases old new end) × Takes end.fault (report_of Complete saved.out) console console_now
 image_done shape serial phases image image_now old new console console_now end b boots did =
@@ -55,13 +56,13 @@ image_done shape serial phases image image_now old new console console_now end b
     subst (λ (m : MachineData). (saved : SavesMachine m phases old new end) × Takes end.fault (report_of Complete saved.out) console console_now) boots.2 did in
     (boots.0, boots.1, now.0, now.1)
 
-early_with : (shape : ShapeData) (serial : List ℕ) (phases : SlicedPhases) (image image_now : SourceState) (same : Type 0) (old new : FileState) (end : End) (b : MachineData)
+early_with : (shape : ShapeData) (serial : List ℕ) (phases : SavePhases) (image image_now : SourceState) (same : Type 0) (old new : FileState) (end : End) (b : MachineData)
     → BootsImage shape serial image image_now b → LeavesMachine b phases same old new end → EndsEarly shape serial phases image image_now same old new end
 early_with shape serial phases image image_now same old new end b boots (inl before) = inl before
 early_with shape serial phases image image_now same old new end b boots (inr at) =
     inr (boots.0, boots.1, subst (λ (m : MachineData). EndsAtInstant m phases same old new end) boots.2 at)
 
-pub image_failed : (shape : ShapeData) (serial : List ℕ) (phases : SlicedPhases) (image image_now : SourceState) (same silent : Type 0) (old new : FileState) (console console_now : SinkState) (end : End) (b : MachineData)
+pub image_failed : (shape : ShapeData) (serial : List ℕ) (phases : SavePhases) (image image_now : SourceState) (same silent : Type 0) (old new : FileState) (console console_now : SinkState) (end : End) (b : MachineData)
     → BootsImage shape serial image image_now b → (LeavesMachine b phases same old new end × silent) ⊎ ReportsFailed TakesReport b phases old new console console_now end
     → (EndsEarly shape serial phases image image_now same old new end × silent)
     ⊎ ((bytes : List ℕ) × ReadsImage shape bytes image image_now × ReportsFailed TakesReport (boot shape bytes serial) phases old new console console_now end)

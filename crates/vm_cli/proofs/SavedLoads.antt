@@ -14,7 +14,7 @@ use Rattle.vm_cli.specs.Jobs.Load.{IsLoadedOf, file_fault, load_and_print_steps}
 use Rattle.vm_cli.specs.Jobs.Save.{IsInstant, KeepsImages, SavesMachine, report_of, save_machine_steps}
 use Rattle.vm_cli.specs.Jobs.Workload.{FailsToLoad, FailsWorkload, IsCheckedShape, IsOfLoad, load_saved_step, workload_machine, workload_phases, workload_shape, workload_steps}
 use Rattle.vm_cli.specs.Outside.{End, end_of}
-use Rattle.vm_cli.specs.Served.{SlicedPhases}
+use Rattle.vm_cli.specs.Served.{SavePhases, Sliced}
 use Rattle.vm_cli.specs.Steps.{AllPass, Faults, HasCause, IsOfStep, Step}
 use Rattle.vm_cli.specs.Work.{IsNotConsole, IsNotEmpty, IsWorkDone}
 use Rattle.vm_cli.specs.declared.answer.Fault.{Fault}
@@ -26,7 +26,7 @@ use Rattle.vm_words.specs.Generator.{turns_drawn}
 use Rattle.vm_words.specs.Workload.{work}
 use Rattle.vm_words.specs.declared.turns.TheConstants.{MAX_TURNS}
 use Rattle.vm_words.specs.declared.turns.TurnOf.{TurnOf}
-use Rattle.vm_cli.proofs.Boot.{boot_shape}
+use Rattle.vm_cli.proofs.Boots.{boot_shape}
 use Rattle.vm_cli.proofs.Causes.{always, passed, where_told}
 
 -- ---- Steps behind others
@@ -130,12 +130,12 @@ images_still i old mid new counts leaves keeps empty =
       ];
     }
 
-abbrev pub saves_after : (b : MachineData) (phases : SlicedPhases) (old mid new : FileState) (end later : End) → SavesMachine b phases old mid end → later.first ≡ end.first → later.second ≡ end.second
+abbrev pub saves_after : (b : MachineData) (phases : SavePhases) (old mid new : FileState) (end later : End) → SavesMachine b phases old mid end → later.first ≡ end.first → later.second ≡ end.second
     → ((t : ℕ) (image : List ℕ) → t ≤ mid.moment → mid.may_leave image → mid.left_since t image) → Leaves mid new → SavesMachine b phases old new later
 saves_after b phases old mid new end later saved first second counts leaves = record {
   instant = saved.instant;
   out = saved.out;
-  first = subst (λ o. IsInstant b phases.stop o saved.instant) (sym first) saved.first;
+  first = subst (λ o. IsInstant phases.way b phases.stop o saved.instant) (sym first) saved.first;
   second = record { phase = saved.second.phase; saved = saved.second.saved; order = second ∙ saved.second.order };
   file = record {
     written = subst (λ (o : Option (List ℕ)). IfSome old.told (λ before. (before ≡ []) × (o ≡ Some (file_of saved.instant)))) (sym leaves.told) saved.file.written;
@@ -148,7 +148,7 @@ saves_after b phases old mid new end later saved first second counts leaves = re
 }
 
 -- the output of a complete save loads, where it tells its bytes
-pub saved_loads : (b : MachineData) (phases : SlicedPhases) (old mid : FileState) (end : End) → SavesMachine b phases old mid end → Loads old mid
+pub saved_loads : (b : MachineData) (phases : SavePhases) (old mid : FileState) (end : End) → SavesMachine b phases old mid end → Loads old mid
 saved_loads b phases old mid end saved = record { told = by_told old.told saved.file.written }
   where
     by_told : (told : Option (List ℕ)) → IfSome told (λ before. (before ≡ []) × (mid.told ≡ Some (file_of saved.instant)))
@@ -158,10 +158,10 @@ saved_loads b phases old mid end saved = record { told = by_told old.told saved.
 
 -- ---- The whole job
 
-as_workload : (seed : ℕ) (P : MachineData → SlicedPhases → Type 0) (b : MachineData) (turns : List TurnOf) → b ≡ workload_machine seed → turns ≡ turns_drawn seed VCPUS MAX_TURNS
-    → P b (record { stop = STOP; run = RUN; turns = turns }) → P (workload_machine seed) (workload_phases seed)
+as_workload : (seed : ℕ) (P : MachineData → SavePhases → Type 0) (b : MachineData) (turns : List TurnOf) → b ≡ workload_machine seed → turns ≡ turns_drawn seed VCPUS MAX_TURNS
+    → P b (record { stop = STOP; run = RUN; way = Sliced turns }) → P (workload_machine seed) (workload_phases seed)
 as_workload seed P b turns same drawn p =
-    subst (λ m. P m (workload_phases seed)) same (subst (λ (t : List TurnOf). P b (record { stop = STOP; run = RUN; turns = t })) drawn p)
+    subst (λ m. P m (workload_phases seed)) same (subst (λ (t : List TurnOf). P b (record { stop = STOP; run = RUN; way = Sliced t })) drawn p)
 
 -- what was done, and how it stands on the console
 abbrev pub IsDone : ℕ → FileState → FileState → SinkState → SinkState → Orders → Option Fault → Type 0
@@ -170,13 +170,13 @@ IsDone seed old new console console_now orders end =
     × Takes end (report_of Complete saved.out ++ ok_line checked) console console_now
 
 -- a save that was done, before the file was loaded
-abbrev pub IsSavedBy : MachineData → SlicedPhases → FileState → FileState → SinkState → SinkState → Orders → Option Fault → Type 0
+abbrev pub IsSavedBy : MachineData → SavePhases → FileState → FileState → SinkState → SinkState → Orders → Option Fault → Type 0
 IsSavedBy b phases old new console console_now orders end =
     (saved : SavesMachine b phases old new (end_of end orders)) × Takes end (report_of Complete saved.out) console console_now
 
 -- the report was cut
 pub cut_done : (seed : ℕ) (b : MachineData) (turns : List TurnOf) (old new : FileState) (console console_now : SinkState) (orders : Orders) (end : Option Fault) (fault : Fault) → b ≡ workload_machine seed
-    → turns ≡ turns_drawn seed VCPUS MAX_TURNS → end ≡ Some fault → (IsWorkDone (Some fault) → IsSavedBy b (record { stop = STOP; run = RUN; turns = turns }) old new console console_now orders (Some fault))
+    → turns ≡ turns_drawn seed VCPUS MAX_TURNS → end ≡ Some fault → (IsWorkDone (Some fault) → IsSavedBy b (record { stop = STOP; run = RUN; way = Sliced turns }) old new console console_now orders (Some fault))
     → IsWorkDone end → IsDone seed old new console console_now orders end
 cut_done seed b turns old new console console_now orders end fault same drawn is did done =
     let now = as_workload seed (λ m p. IsSavedBy m p old new console console_now orders (Some fault)) b turns same drawn (did (subst IsWorkDone is done)) in
@@ -202,7 +202,7 @@ shape_checked seed old mid end m saved law is = by_told old.told saved.file.writ
         sym (ap (λ (k : MachineData). k.shape) same) ∙ saved.first.shape ∙ boot_shape workload_shape (work seed) []
 
 pub whole_done : (seed : ℕ) (b : MachineData) (turns : List TurnOf) (old mid new : FileState) (console between now : SinkState) (orders : Orders) (end : Option Fault) → b ≡ workload_machine seed
-    → turns ≡ turns_drawn seed VCPUS MAX_TURNS → IsSavedBy b (record { stop = STOP; run = RUN; turns = turns }) old mid console between orders None
+    → turns ≡ turns_drawn seed VCPUS MAX_TURNS → IsSavedBy b (record { stop = STOP; run = RUN; way = Sliced turns }) old mid console between orders None
     → ((t : ℕ) (image : List ℕ) → t ≤ mid.moment → mid.may_leave image → mid.left_since t image) → ((file : List ℕ) (k : MachineData) → Lay file k → loaded file ≡ Ok k) → Leaves mid new
     → (m : MachineData) × IsLoadedOf mid m × Takes end (ok_line m.shape) between now → IsDone seed old new console now orders end
 whole_done seed b turns old mid new console between now orders end same drawn did counts law leaves loaded_so =
@@ -215,7 +215,7 @@ whole_done seed b turns old mid new console between now orders end same drawn di
 
 -- the load failed, and nothing was printed for it
 pub load_failed : (seed : ℕ) (b : MachineData) (turns : List TurnOf) (old mid new : FileState) (console between : SinkState) (orders : Orders) (end : Option Fault) (fault : Fault) (from to : Faults)
-    → b ≡ workload_machine seed → turns ≡ turns_drawn seed VCPUS MAX_TURNS → IsSavedBy b (record { stop = STOP; run = RUN; turns = turns }) old mid console between orders None
+    → b ≡ workload_machine seed → turns ≡ turns_drawn seed VCPUS MAX_TURNS → IsSavedBy b (record { stop = STOP; run = RUN; way = Sliced turns }) old mid console between orders None
     → ((t : ℕ) (image : List ℕ) → t ≤ mid.moment → mid.may_leave image → mid.left_since t image) → Leaves mid new → end ≡ Some fault → IsNotConsole fault
     → from.input ≡ mid.faults → to.input ≡ new.faults → HasCause from to (load_and_print_steps mid) end
     → FailsToLoad TakesWhole seed fault old new console between (end_of end orders)
@@ -229,7 +229,7 @@ load_failed seed b turns old mid new console between orders end fault from to sa
 
 -- as the end of the job has it
 pub fails_later : (seed : ℕ) (b : MachineData) (turns : List TurnOf) (old mid new : FileState) (console between now : SinkState) (orders : Orders) (end : Option Fault) (fault : Fault) (from to : Faults)
-    → b ≡ workload_machine seed → turns ≡ turns_drawn seed VCPUS MAX_TURNS → IsSavedBy b (record { stop = STOP; run = RUN; turns = turns }) old mid console between orders None
+    → b ≡ workload_machine seed → turns ≡ turns_drawn seed VCPUS MAX_TURNS → IsSavedBy b (record { stop = STOP; run = RUN; way = Sliced turns }) old mid console between orders None
     → ((t : ℕ) (image : List ℕ) → t ≤ mid.moment → mid.may_leave image → mid.left_since t image) → Leaves mid new → end ≡ Some fault → IsNotConsole fault
     → from.input ≡ mid.faults → to.input ≡ new.faults → HasCause from to (load_and_print_steps mid) end → now ≡ between
     → {P : Type 0} → P ⊎ FailsWorkload TakesReport TakesWhole seed fault old new console now (end_of end orders)
@@ -239,7 +239,7 @@ fails_later seed b turns old mid new console between now orders end fault from t
 
 -- the cause of the end
 pub whole_cause : (seed : ℕ) (b : MachineData) (turns : List TurnOf) (old mid new : FileState) (console between : SinkState) (orders : Orders) (first last from to : Faults) (end : Option Fault)
-    → b ≡ workload_machine seed → turns ≡ turns_drawn seed VCPUS MAX_TURNS → IsSavedBy b (record { stop = STOP; run = RUN; turns = turns }) old mid console between orders None
+    → b ≡ workload_machine seed → turns ≡ turns_drawn seed VCPUS MAX_TURNS → IsSavedBy b (record { stop = STOP; run = RUN; way = Sliced turns }) old mid console between orders None
     → first.output ≡ old.faults → last.output ≡ new.faults → from.input ≡ mid.faults → to.input ≡ new.faults → first.console ≤ from.console → to.console ≡ last.console
     → AllPass (save_machine_steps old) → HasCause from to (load_and_print_steps mid) end → HasCause first last (workload_steps old) end
 whole_cause seed b turns old mid new console between orders first last from to end same drawn did was is had has less more pass cause =

@@ -19,13 +19,13 @@ use Rattle.medium.specs.Members.{file_state}
 use Rattle.medium.specs.States.{FileState, Leaves}
 use Rattle.medium.specs.declared.readable.Readable as readable
 use Rattle.sliced_run.specs.Phase.{AddsOnly, IsPhaseOf, LeavesFile}
+use Rattle.vm_words.specs.declared.turns.TurnOf.{TurnOf}
 use Rattle.vm_cli.specs.Answer.{fault_of_save}
 use Rattle.vm_cli.specs.Images.{IsOfInstant}
-use Rattle.vm_cli.specs.Jobs.Save.{KeepsImages, LeavesAtInstant, LeavesSaved, WritesInstant}
+use Rattle.vm_cli.specs.Jobs.Save.{HasBegun, KeepsImages, LeavesAtInstant, LeavesSaved, WritesInstant}
 use Rattle.vm_cli.specs.Write.{KeepsFull}
 use Rattle.vm_cli.specs.declared.answer.Fault.{Fault}
 use Rattle.vm_cli.specs.declared.answer.Fault.TheVariants as faults
-use Rattle.vm_words.specs.declared.turns.TurnOf.{TurnOf}
 use Rattle.vm_cli.proofs.Causes.{always}
 
 -- ---- What is told
@@ -109,31 +109,34 @@ saved_file i old mid new d (Some Failed) begins goes leaves ended loads = (omega
 
 -- ---- A save that began, by the answer of its phase
 
-pub saved_by : {M : Type 0} (g : readable.Ghosts M) (i at : MachineData) (n : ℕ) (turns : List TurnOf) (old mid new : M) (d : SaverData) (answer : Result PhaseOut Fault) → at ≡ i
-    → Begins at (file_state g old) (file_state g mid) d → IfSome (g.told old) (λ _. IsSome (g.told mid)) → IfOk answer (IsPhaseOf at n turns)
-    → IfOk answer (λ out. LeavesFile at out.saved (file_state g mid) (file_state g new)) → loaded (file_of i) ≡ Ok i
+-- one on one thread has an end
+pub has_end : (i : MachineData) (n : ℕ) (turns : List TurnOf) (answer : Result PhaseOut Fault) → IfOk answer (IsPhaseOf i n turns) → IfOk answer (λ out. (out.saved ≡ None) → ⊥)
+has_end i n turns (Ok out) phase = phase.ended
+has_end i n turns (Err fault) phase = tt
+
+pub saved_by : {M : Type 0} (g : readable.Ghosts M) (i at : MachineData) (old mid new : M) (d : SaverData) (answer : Result PhaseOut Fault) → HasBegun i (file_state g old) (file_state g mid) at d
+    → IfOk answer (λ out. (out.saved ≡ None) → ⊥) → IfOk answer (λ out. LeavesFile at out.saved (file_state g mid) (file_state g new)) → loaded (file_of i) ≡ Ok i
     → IfOk answer (λ out. LeavesSaved i out.saved (file_state g old) (file_state g new))
-saved_by g i at n turns old mid new d (Ok out) same begins goes phase leaves loads =
-    saved_file i (file_state g old) (file_state g mid) (file_state g new) d out.saved (subst (λ m. Begins m (file_state g old) (file_state g mid) d) same begins) goes
-    (subst (λ m. LeavesFile m out.saved (file_state g mid) (file_state g new)) same leaves) phase.ended loads
-saved_by g i at n turns old mid new d (Err fault) same begins goes phase leaves loads = tt
+saved_by g i at old mid new d (Ok out) begun ended leaves loads =
+    saved_file i (file_state g old) (file_state g mid) (file_state g new) d out.saved begun.begins begun.told
+    (subst (λ m. LeavesFile m out.saved (file_state g mid) (file_state g new)) begun.same leaves) ended loads
+saved_by g i at old mid new d (Err fault) begun ended leaves loads = tt
 
-pub unsaved_by : {M : Type 0} (g : readable.Ghosts M) (i at : MachineData) (same_file : Type 0) (old mid new : M) (d : SaverData) (answer : Result PhaseOut Fault) → at ≡ i
-    → Begins at (file_state g old) (file_state g mid) d → IfErr answer (λ fault. (fault ≡ faults.NoMemory) × (new ≡ mid))
+pub unsaved_by : {M : Type 0} (g : readable.Ghosts M) (i at : MachineData) (same_file : Type 0) (old mid new : M) (d : SaverData) (answer : Result PhaseOut Fault)
+    → HasBegun i (file_state g old) (file_state g mid) at d → IfErr answer (λ fault. (fault ≡ faults.NoMemory) × (new ≡ mid))
     → IfErr answer (λ fault. LeavesAtInstant i same_file (file_state g old) (file_state g new) (Some fault))
-unsaved_by g i at same_file old mid new d (Ok out) same begins refused = tt
-unsaved_by g i at same_file old mid new d (Err fault) same begins refused =
+unsaved_by g i at same_file old mid new d (Ok out) begun refused = tt
+unsaved_by g i at same_file old mid new d (Err fault) begun refused =
     subst (λ f. LeavesAtInstant i same_file (file_state g old) (file_state g new) (Some f)) (sym refused.0)
-    (inr (d, subst (λ m. Begins i (file_state g old) (file_state g m) d) (sym refused.1) (subst (λ m. Begins m (file_state g old) (file_state g mid) d) same begins)))
+    (inr (d, subst (λ m. Begins i (file_state g old) (file_state g m) d) (sym refused.1) begun.begins))
 
-pub crash_by : {M : Type 0} (g : readable.Ghosts M) (i at : MachineData) (old mid new : M) (answer : Result PhaseOut Fault) → at ≡ i
-    → (Only [] (g.may_leave old) → LeavesSince (file_state g old) (file_state g mid) IsFirstByte) → IfSome (g.told old) (λ _. IsSome (g.told mid))
+pub crash_by : {M : Type 0} (g : readable.Ghosts M) (i at : MachineData) (old mid new : M) (d : SaverData) (answer : Result PhaseOut Fault) → HasBegun i (file_state g old) (file_state g mid) at d
     → IfOk answer (λ out. LeavesFile at out.saved (file_state g mid) (file_state g new)) → IfErr answer (λ fault. (fault ≡ faults.NoMemory) × (new ≡ mid))
     → KeepsImages i (file_state g old) (file_state g new)
-crash_by g i at old mid new (Ok out) same begun goes leaves refused =
-    crash_phase i (file_state g old) (file_state g mid) (file_state g new) begun goes (subst (λ m. LeavesFile m out.saved (file_state g mid) (file_state g new)) same leaves).crash
-crash_by g i at old mid new (Err fault) same begun goes leaves refused =
-    subst (λ m. KeepsImages i (file_state g old) (file_state g m)) (sym refused.1) (crash_begun i (file_state g old) (file_state g mid) begun)
+crash_by g i at old mid new d (Ok out) begun leaves refused =
+    crash_phase i (file_state g old) (file_state g mid) (file_state g new) begun.images begun.told (subst (λ m. LeavesFile m out.saved (file_state g mid) (file_state g new)) begun.same leaves).crash
+crash_by g i at old mid new d (Err fault) begun leaves refused =
+    subst (λ m. KeepsImages i (file_state g old) (file_state g m)) (sym refused.1) (crash_begun i (file_state g old) (file_state g mid) begun.images)
 
 -- ---- Two saves of one instant
 

@@ -2,7 +2,7 @@
 use Rattle.std.proofs.Common.{◌≡◌, arith}
 use Rattle.vm_cli.specs.Answer.{fault_status}
 use Rattle.vm_cli.specs.declared.answer.Fault.{Fault}
-use Rattle.vm_cli.specs.declared.answer.Fault.TheVariants.{Usage, NotYet, ImageRefused, FileFault, ImageFault, NoMemory, NotEmpty, ConsoleFault, AsmRefused, FileRefused, PeekRefused}
+use Rattle.vm_cli.specs.declared.answer.Fault.TheVariants.{Usage, NotYet, ImageRefused, FileFault, ImageFault, NoMemory, NotEmpty, ConsoleFault, AsmRefused, FileRefused, PeekRefused, LayerRefused, OrderRefused}
 
 pub no_success : (fault : Fault) → fault_status fault ≡ 0 → ⊥
 no_success (Usage index kind) is = omega arith
@@ -16,3 +16,5 @@ no_success ConsoleFault is = omega arith
 no_success (AsmRefused line kind) is = omega arith
 no_success (FileRefused refusal) is = omega arith
 no_success (PeekRefused refusal) is = omega arith
+no_success (LayerRefused refusal) is = omega arith
+no_success (OrderRefused refusal) is = omega arith

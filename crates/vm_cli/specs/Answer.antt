@@ -8,8 +8,12 @@ use Rattle.image_file.specs.declared.image_fault.ImageFault.{ImageFault}
 use Rattle.image_file.specs.declared.image_fault.ImageFault.TheVariants as image_faults
 use Rattle.loader.specs.declared.refusal.LoadFault.{LoadFault}
 use Rattle.loader.specs.declared.refusal.LoadFault.TheVariants as load_faults
+use Rattle.order_log.specs.declared.fault.OrderFault.{OrderFault}
+use Rattle.order_log.specs.declared.fault.OrderFault.TheVariants as order_faults
 use Rattle.page_peek.specs.declared.fault.PeekFault.{PeekFault}
 use Rattle.page_peek.specs.declared.fault.PeekFault.TheVariants as peek_faults
+use Rattle.snap_layer.specs.declared.refusal.LayerFault.{LayerFault}
+use Rattle.snap_layer.specs.declared.refusal.LayerFault.TheVariants as layer_faults
 use Rattle.vm_words.specs.declared.fault.WordsFault.{WordsFault}
 use Rattle.vm_words.specs.declared.fault.WordsFault.TheVariants as words_faults
 use Rattle.vm_cli.specs.declared.answer.Fault.{Fault}
@@ -30,6 +34,8 @@ fault_status faults.NoMemory = 7
 fault_status (faults.NotEmpty len) = 8
 fault_status (faults.AsmRefused line kind) = 9
 fault_status (faults.PeekRefused refusal) = 10
+fault_status (faults.LayerRefused refusal) = 11
+fault_status (faults.OrderRefused refusal) = 12
 
 -- the exit status of a job
 abbrev pub status_of : Option Fault → ℕ
@@ -54,6 +60,15 @@ abbrev pub fault_of_peek : PeekFault → Fault
 fault_of_peek (peek_faults.Refused refusal) = faults.PeekRefused refusal
 fault_of_peek peek_faults.ReadFault = faults.FileFault
 fault_of_peek peek_faults.NoMemory = faults.NoMemory
+
+abbrev pub fault_of_layer : LayerFault → Fault
+fault_of_layer (layer_faults.Refused refusal) = faults.LayerRefused refusal
+fault_of_layer layer_faults.NoMemory = faults.NoMemory
+
+abbrev pub fault_of_order : OrderFault → Fault
+fault_of_order (order_faults.Refused refusal) = faults.OrderRefused refusal
+fault_of_order order_faults.ReadFault = faults.FileFault
+fault_of_order order_faults.NoMemory = faults.NoMemory
 
 abbrev pub fault_of_text : AsmFault → Fault
 fault_of_text (asm_faults.Line line kind) = faults.AsmRefused line kind

@@ -10,8 +10,12 @@ use Rattle.mapped_ram_header.specs.declared.fault.HeaderFault.TheVariants.{Versi
 use Rattle.device_state.specs.declared.fault.DeviceFault.TheVariants.{Steps, State, SerialLength, InputLength, Clock}
 use Rattle.loader.specs.declared.refusal.Refusal.{Refusal}
 use Rattle.loader.specs.declared.refusal.Refusal.TheVariants as file
+use Rattle.order_log.specs.declared.fault.OrderRefusal.{OrderRefusal}
+use Rattle.order_log.specs.declared.fault.OrderRefusal.TheVariants as order
 use Rattle.page_peek.specs.declared.fault.PeekRefusal.{PeekRefusal}
 use Rattle.page_peek.specs.declared.fault.PeekRefusal.TheVariants as peek
+use Rattle.snap_layer.specs.declared.refusal.LayerRefusal.{LayerRefusal}
+use Rattle.snap_layer.specs.declared.refusal.LayerRefusal.TheVariants as layer
 use Rattle.vm_words.specs.declared.fault.UsageKind.{UsageKind}
 use Rattle.vm_words.specs.declared.fault.UsageKind.TheVariants.{NoCommand, Command, NoEquals, Key, Twice, Value, Missing, NeedsThreads}
 use Rattle.vm_cli.specs.declared.answer.Fault.{Fault}
@@ -93,6 +97,38 @@ abbrev pub peek_words : PeekRefusal → List ℕ
 peek_words (peek.Truncated at) = codes "fault 10 peek truncated " ++ decimal at
 peek_words (peek.Differs at found) = codes "fault 10 peek differs " ++ two_numbers at found
 
+-- the words of the line of a layer that is refused, or of which the machine came too late
+abbrev pub layer_words : LayerRefusal → List ℕ
+layer_words (layer.Truncated at) = codes "fault 11 layer truncated " ++ decimal at
+layer_words (layer.Magic v) = codes "fault 11 layer magic " ++ decimal v
+layer_words (layer.Version v) = codes "fault 11 layer version " ++ decimal v
+layer_words (layer.Shape at v) = codes "fault 11 layer shape " ++ two_numbers at v
+layer_words (layer.Base at v) = codes "fault 11 layer base " ++ two_numbers at v
+layer_words (layer.Count v) = codes "fault 11 layer count " ++ decimal v
+layer_words (layer.Page at v) = codes "fault 11 layer page " ++ two_numbers at v
+layer_words (layer.Section at found) = codes "fault 11 layer section " ++ two_numbers at found
+layer_words (layer.Footer at found) = codes "fault 11 layer footer " ++ two_numbers at found
+layer_words (layer.Device at (Steps v)) = codes "fault 11 layer device-steps " ++ two_numbers at v
+layer_words (layer.Device at (State v)) = codes "fault 11 layer device-state " ++ two_numbers at v
+layer_words (layer.Device at (SerialLength v)) = codes "fault 11 layer device-serial-length " ++ two_numbers at v
+layer_words (layer.Device at (InputLength v)) = codes "fault 11 layer device-input-length " ++ two_numbers at v
+layer_words (layer.Device at (Clock v)) = codes "fault 11 layer device-clock " ++ two_numbers at v
+layer_words (layer.Vcpus v) = codes "fault 11 layer vcpus " ++ decimal v
+layer_words (layer.Trailing at) = codes "fault 11 layer trailing " ++ decimal at
+layer_words (layer.Late clock) = codes "fault 11 layer late " ++ decimal clock
+
+-- the words of the line of an order that is refused
+abbrev pub order_words : OrderRefusal → List ℕ
+order_words (order.Truncated at) = codes "fault 12 order truncated " ++ decimal at
+order_words (order.Magic v) = codes "fault 12 order magic " ++ decimal v
+order_words (order.Version v) = codes "fault 12 order version " ++ decimal v
+order_words (order.Vcpus v) = codes "fault 12 order vcpus " ++ decimal v
+order_words (order.Count v) = codes "fault 12 order count " ++ decimal v
+order_words (order.Member at v) = codes "fault 12 order member " ++ two_numbers at v
+order_words (order.Pad v) = codes "fault 12 order pad " ++ decimal v
+order_words (order.Trailing at) = codes "fault 12 order trailing " ++ decimal at
+order_words (order.Halted place) = codes "fault 12 order halted " ++ decimal place
+
 -- the words of a fault's line
 abbrev pub fault_words : Fault → List ℕ
 fault_words (faults.Usage index kind) = codes "fault 1 usage " ++ number_then index (usage_text kind)
@@ -108,6 +144,8 @@ fault_words faults.NoMemory = codes "fault 7 no-memory"
 fault_words (faults.NotEmpty len) = codes "fault 8 not-empty " ++ decimal len
 fault_words (faults.AsmRefused line kind) = codes "fault 9 assembly " ++ number_then line (asm_text kind)
 fault_words (faults.PeekRefused refusal) = peek_words refusal
+fault_words (faults.LayerRefused refusal) = layer_words refusal
+fault_words (faults.OrderRefused refusal) = order_words refusal
 
 -- the line
 unfoldable pub fault_line : Fault → List ℕ

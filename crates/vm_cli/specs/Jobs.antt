@@ -1,9 +1,14 @@
 pub mod Assembly
+pub mod Boot
 pub mod CheckFile
 pub mod Common
+pub mod Join
+pub mod Layer
 pub mod LazyRestore
 pub mod Load
 pub mod Peek
+pub mod Record
+pub mod Replay
 pub mod Restore
 pub mod Save
 pub mod Workload

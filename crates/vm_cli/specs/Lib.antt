@@ -4,6 +4,7 @@ pub mod Words
 pub mod Outside
 pub mod Steps
 pub mod Jobs
+pub mod Replayed
 pub mod Answer
 pub mod Work
 pub mod Ends

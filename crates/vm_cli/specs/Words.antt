@@ -1,29 +1,34 @@
 -- Which lines are served, and the fault of every other (this project's own, docs/COMMAND_LINE.md).
-use Rattle.std.specs.Prelude.{◌≡◌, ℕ, ◌+◌, true, false, nat_eq, List, [], ◌∷◌, codes, Option, Some, None, Result, Ok, Err, if◌then◌else◌}
+use Rattle.std.specs.Prelude.{◌≡◌, ℕ, zero, ◌+◌, true, false, nat_eq, List, [], ◌∷◌, codes, Option, Some, None, Result, Ok, Err, if◌then◌else◌}
 use Rattle.std.specs.List.{starts_with}
 use Rattle.vm_words.specs.Job.{job}
 use Rattle.vm_words.specs.declared.fault.UsageKind.{UsageKind}
 use Rattle.vm_words.specs.declared.fault.UsageKind.TheVariants.{NeedsThreads}
 use Rattle.vm_words.specs.declared.job.Job.{Job}
 use Rattle.vm_words.specs.declared.job.Job.TheVariants as jobs
-use Rattle.vm_words.specs.declared.job.Mode.TheVariants.{Sliced, Threads}
+use Rattle.vm_words.specs.declared.job.Mode.TheVariants as modes
 use Rattle.vm_cli.specs.declared.answer.Fault.{Fault}
 use Rattle.vm_cli.specs.declared.answer.Fault.TheVariants.{Usage, NotYet, NoMemory}
 use Rattle.vm_cli.specs.declared.words.Caller.{Caller}
 use Rattle.vm_cli.specs.declared.words.Caller.TheVariants.{Still, Threaded}
-use Rattle.vm_cli.specs.Served.{Assembly, CheckFile, LazyRestore, Peek, Restore, Save, Served, Workload}
+use Rattle.vm_cli.specs.Served.{Assembly, CheckFile, Join, Layer, LazyRestore, OnThreads, Peek, Record, Replay, Restore, Save, Served, Sliced, Workload}
 
 -- ---- Which jobs are served
 
--- which job of those that are served it is; a save in threads isn't yet
+-- which job of those that are served it is; a save with a relay isn't yet
 abbrev pub served_of : Job → Option Served
 served_of jobs.Assemble = Some Assembly
 served_of jobs.CheckFile = Some CheckFile
 served_of (jobs.Restore n false) = Some (Restore n)
 served_of (jobs.Restore n true) = Some (LazyRestore n)
 served_of (jobs.Peek shape at len) = Some (Peek shape at len)
-served_of (jobs.Save shape stop run Sliced turns input relay) = Some (Save shape input (record { stop = stop; run = run; turns = turns }))
+served_of (jobs.Save shape stop run modes.Sliced turns input relay) = Some (Save shape input (record { stop = stop; run = run; way = Sliced turns }))
+served_of (jobs.Save shape stop run modes.Threads turns input zero) = Some (Save shape input (record { stop = stop; run = run; way = OnThreads }))
 served_of (jobs.Workload seed) = Some (Workload seed)
+served_of (jobs.Layer run) = Some (Layer run)
+served_of jobs.Join = Some Join
+served_of (jobs.Record shape run input) = Some (Record shape run input)
+served_of (jobs.Replay shape input) = Some (Replay shape input)
 served_of job = None
 
 -- the same, of what words give
@@ -44,7 +49,7 @@ mode_word before (word ∷ words) = if starts_with nat_eq word (codes "mode=") t
 
 -- the word that asks for threads: that of the mode in a save, and the command itself in a record
 abbrev pub threads_word : List (List ℕ) → Job → Option ℕ
-threads_word words (jobs.Save shape stop run Threads turns input relay) = Some (mode_word 0 words)
+threads_word words (jobs.Save shape stop run modes.Threads turns input relay) = Some (mode_word 0 words)
 threads_word words (jobs.Record shape run input) = Some 0
 threads_word words job = None
 
@@ -52,6 +57,12 @@ threads_word words job = None
 abbrev pub forbidden_word : Caller → List (List ℕ) → Job → Option ℕ
 forbidden_word Still words job = threads_word words job
 forbidden_word Threaded words job = None
+
+-- the job needs no threads
+abbrev pub IsOnOneThread : Job → Type 0
+IsOnOneThread (jobs.Save shape stop run modes.Threads turns input relay) = ⊥
+IsOnOneThread (jobs.Record shape run input) = ⊥
+IsOnOneThread job = Unit {0}
 
 -- the fault of a line that is not served
 abbrev pub fault_of_job : Option ℕ → Option Served → Option Fault

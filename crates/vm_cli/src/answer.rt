@@ -1,5 +1,5 @@
 ghost use Rattle.std.specs.Prelude.{◌≡◌};
-ghost use Rattle.vm_cli.specs.Answer.{fault_status, status_of, fault_of_image, fault_of_load, fault_of_peek, fault_of_save, fault_of_write, fault_of_text, fault_of_words};
+ghost use Rattle.vm_cli.specs.Answer.{fault_status, status_of, fault_of_image, fault_of_layer, fault_of_load, fault_of_order, fault_of_peek, fault_of_save, fault_of_write, fault_of_text, fault_of_words};
 ghost use Rattle.vm_cli.specs.declared.answer.Fault.TheVariants.{NoMemory as out_of_memory};
 
 use crate::write_fault::WriteFault;
@@ -8,8 +8,10 @@ use flat_machine::Order;
 use guest_asm::{AsmFault, AsmKind};
 use image_file::{ImageFault, ImageRefusal};
 use loader::{LoadFault, Refusal};
+use order_log::{OrderFault, OrderRefusal};
 use page_peek::{PeekFault, PeekRefusal};
 use ram_block::NoMemory;
+use snap_layer::{LayerFault, LayerRefusal};
 use std::alloc::AllocError;
 use vm_words::{UsageKind, WordsFault};
 
@@ -36,6 +38,10 @@ pub enum Fault {
     AsmRefused { line: u32, kind: AsmKind },
     /// The file to be looked into has other heads than those of the shape, or ends in a page of the range.
     PeekRefused(PeekRefusal),
+    /// The layer and its base join to no machine, or the machine of which a layer was asked for came too late.
+    LayerRefused(LayerRefusal),
+    /// The order file is the text of no order, or a vCPU is halted at its turn.
+    OrderRefused(OrderRefusal),
 }
 
 impl Fault {
@@ -54,6 +60,8 @@ impl Fault {
             Fault::NotEmpty { .. } => 8,
             Fault::AsmRefused { .. } => 9,
             Fault::PeekRefused(_) => 10,
+            Fault::LayerRefused(_) => 11,
+            Fault::OrderRefused(_) => 12,
         }
     }
 }
@@ -101,6 +109,29 @@ impl From<PeekFault> for Fault {
             PeekFault::Refused(refusal) => Fault::PeekRefused(refusal),
             PeekFault::ReadFault => Fault::FileFault,
             PeekFault::NoMemory => Fault::NoMemory,
+        }
+    }
+}
+
+impl From<LayerFault> for Fault {
+    ghost from_gives = { λ e f. f ≡ fault_of_layer e };
+
+    fn from(fault: LayerFault) -> Self {
+        match fault {
+            LayerFault::Refused(refusal) => Fault::LayerRefused(refusal),
+            LayerFault::NoMemory => Fault::NoMemory,
+        }
+    }
+}
+
+impl From<OrderFault> for Fault {
+    ghost from_gives = { λ e f. f ≡ fault_of_order e };
+
+    fn from(fault: OrderFault) -> Self {
+        match fault {
+            OrderFault::Refused(refusal) => Fault::OrderRefused(refusal),
+            OrderFault::ReadFault => Fault::FileFault,
+            OrderFault::NoMemory => Fault::NoMemory,
         }
     }
 }

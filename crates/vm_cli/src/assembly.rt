@@ -1,22 +1,20 @@
-ghost use Rattle.std.specs.Prelude.{◌≡◌, ◌≤◌, ◌+◌, ◌^◌, ℕ, List, Err, length, IfErr, OnOk};
+ghost use Rattle.std.specs.Prelude.{◌≡◌, ◌≤◌, ◌+◌, ℕ, List, length};
 ghost use Rattle.guest_asm.specs.declared.assembler.TheConstants.{MAX_TEXT};
 ghost use Rattle.image_file.specs.Image.{ReadsOn};
-ghost use Rattle.medium.specs.Count.{counted};
 ghost use Rattle.medium.specs.Members.{file_state, sink_state, source_state};
 ghost use Rattle.medium.specs.States.{Leaves};
 ghost use Rattle.vm_cli.specs.Answer.{fault_in};
 ghost use Rattle.vm_cli.specs.Work.{IsBeforeOutput, IsNotEmpty, IsUsage, IsWorkDone};
 ghost use Rattle.vm_cli.specs.Jobs.Assembly.{WritesAssembly, assembly_steps};
-ghost use Rattle.vm_cli.specs.Jobs.Common.{IsDurable, IsFilledWith, Takes};
+ghost use Rattle.vm_cli.specs.Jobs.Common.{Takes};
 ghost use Rattle.vm_cli.specs.Parts.{assembled_line};
 ghost use Rattle.vm_cli.specs.Steps.{Faults, HasCause};
-ghost use Rattle.vm_cli.specs.Write.{IsBeforeConsole, IsUnwritten, KeepsFull};
-ghost use Rattle.vm_cli.specs.declared.write_fault.WriteFault.TheVariants.{NoMemory as out_of_memory};
+ghost use Rattle.vm_cli.specs.Write.{IsBeforeConsole, KeepsFull};
 
 use crate::Fault;
 use crate::parts::Part::{Number, Text};
 use crate::parts::put_parts;
-use crate::write_fault::WriteFault;
+use crate::write::write_whole;
 use guest_asm::{MAX_TEXT, assemble};
 use image_file::read_raw;
 use medium::{Medium, Sink, Source};
@@ -53,25 +51,4 @@ pub(crate) fn assemble_image<S: Source, M: Medium, K: Sink>(
         Text(" bytes\n"),
     ];
     put_parts(console, &line).map_err(|_| Fault::ConsoleFault)
-}
-
-// Writes the bytes to an output that is empty, and makes sure of them.
-fn write_whole<M: Medium>(output: &mut M, bytes: &[u8]) -> Result<(), WriteFault>
-    requires { length bytes.now ≤ 2 ^ 30 }
-    ensures written { OnOk result (IsFilledWith bytes.now (file_state M.Readable output.old) (file_state M.Readable output.new)) }
-    ensures synced { OnOk result (M.syncs output.new ≡ counted (M.syncs output.old)) }
-    ensures durable { OnOk result (IsDurable (file_state M.Readable output.new)) }
-    ensures unwritten { IfErr result (IsUnwritten (file_state M.Readable output.old) (file_state M.Readable output.new)) }
-    ensures kept { KeepsFull (file_state M.Readable output.old) (file_state M.Readable output.new) }
-    ensures enough { (result ≡ Err out_of_memory) → ⊥ }
-{
-    let len = output.len()?;
-    if len > 0 {
-        return Err(WriteFault::NotEmpty(len));
-    }
-    if !bytes.is_empty() {
-        output.write_at(0, bytes)?;
-    }
-    output.sync()?;
-    Ok(())
 }

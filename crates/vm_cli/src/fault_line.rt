@@ -1,8 +1,9 @@
 ghost use Rattle.std.specs.Prelude.{◌≡◌, [], ◌∷◌, ◌++◌};
 ghost use Rattle.std.specs.Fmt.{decimal};
-ghost use Rattle.vm_cli.specs.FaultLine.{asm_text, elf_text, fault_line, file_words, number_then, peek_words, then_number, two_numbers, usage_text};
+ghost use Rattle.vm_cli.specs.FaultLine.{asm_text, elf_text, fault_line, file_words, layer_words, number_then, order_words, peek_words, then_number, two_numbers, usage_text};
 ghost use Rattle.vm_cli.specs.Parts.{parts_text};
 ghost use Rattle.loader.specs.declared.refusal.Refusal.TheVariants.{Device as device_refusal, Header as header_refusal, Name as name_refusal};
+ghost use Rattle.snap_layer.specs.declared.refusal.LayerRefusal.TheVariants.{Device as layer_device};
 
 use crate::Fault;
 use crate::parts::Part;
@@ -11,7 +12,9 @@ use guest_asm::AsmKind;
 use image_file::{ElfKind, ImageRefusal};
 use loader::Refusal;
 use mapped_ram_header::HeaderFault;
+use order_log::OrderRefusal;
 use page_peek::PeekRefusal;
+use snap_layer::LayerRefusal;
 use vm_words::UsageKind;
 
 /// The end of a line.
@@ -45,6 +48,8 @@ pub(crate) fn fault_line(fault: Fault) -> [Part; 7]
             number_and_word("fault 9 assembly ", u64::from(line), asm_text(kind))
         }
         Fault::PeekRefused(refusal) => peek_line(refusal),
+        Fault::LayerRefused(refusal) => layer_line(refusal),
+        Fault::OrderRefused(refusal) => order_line(refusal),
     }
 }
 
@@ -133,6 +138,67 @@ fn peek_line(refusal: PeekRefusal) -> [Part; 7]
         PeekRefusal::Differs { at, found } => {
             two_numbers("fault 10 peek differs ", at, u64::from(found))
         }
+    }
+}
+
+// The line of a layer that is refused.
+fn layer_line(refusal: LayerRefusal) -> [Part; 7]
+    ensures { parts_text result ≡ layer_words refusal ++ 10 ∷ [] }
+{
+    match refusal {
+        LayerRefusal::Truncated { at } => number("fault 11 layer truncated ", at),
+        LayerRefusal::Magic(v) => number("fault 11 layer magic ", u64::from(v)),
+        LayerRefusal::Version(v) => number("fault 11 layer version ", u64::from(v)),
+        LayerRefusal::Shape { at, v } => two_numbers("fault 11 layer shape ", at, u64::from(v)),
+        LayerRefusal::Base { at, v } => two_numbers("fault 11 layer base ", at, v),
+        LayerRefusal::Count(v) => number("fault 11 layer count ", u64::from(v)),
+        LayerRefusal::Page { at, v } => two_numbers("fault 11 layer page ", at, u64::from(v)),
+        LayerRefusal::Section { at, found } => {
+            two_numbers("fault 11 layer section ", at, u64::from(found))
+        }
+        LayerRefusal::Footer { at, found } => {
+            two_numbers("fault 11 layer footer ", at, u64::from(found))
+        }
+        LayerRefusal::Device { at, fault } => layer_device_line(at, fault),
+        LayerRefusal::Vcpus(v) => number("fault 11 layer vcpus ", u64::from(v)),
+        LayerRefusal::Trailing { at } => number("fault 11 layer trailing ", at),
+        LayerRefusal::Late { clock } => number("fault 11 layer late ", clock),
+    }
+}
+
+// The line of a layer that has a device with a number past its limit.
+fn layer_device_line(at: u64, fault: DeviceFault) -> [Part; 7]
+    ensures { parts_text result ≡ layer_words (layer_device at fault) ++ 10 ∷ [] }
+{
+    match fault {
+        DeviceFault::Steps(v) => two_numbers("fault 11 layer device-steps ", at, v),
+        DeviceFault::State(v) => two_numbers("fault 11 layer device-state ", at, u64::from(v)),
+        DeviceFault::SerialLength(v) => {
+            two_numbers("fault 11 layer device-serial-length ", at, u64::from(v))
+        }
+        DeviceFault::InputLength(v) => {
+            two_numbers("fault 11 layer device-input-length ", at, u64::from(v))
+        }
+        DeviceFault::Clock(v) => two_numbers("fault 11 layer device-clock ", at, v),
+    }
+}
+
+// The line of an order that is refused.
+fn order_line(refusal: OrderRefusal) -> [Part; 7]
+    ensures { parts_text result ≡ order_words refusal ++ 10 ∷ [] }
+{
+    match refusal {
+        OrderRefusal::Truncated { at } => number("fault 12 order truncated ", at),
+        OrderRefusal::Magic(v) => number("fault 12 order magic ", u64::from(v)),
+        OrderRefusal::Version(v) => number("fault 12 order version ", u64::from(v)),
+        OrderRefusal::Vcpus(v) => number("fault 12 order vcpus ", u64::from(v)),
+        OrderRefusal::Count(v) => number("fault 12 order count ", v),
+        OrderRefusal::Member { at, v } => {
+            two_numbers("fault 12 order member ", at, u64::from(v))
+        }
+        OrderRefusal::Pad(v) => number("fault 12 order pad ", u64::from(v)),
+        OrderRefusal::Trailing { at } => number("fault 12 order trailing ", at),
+        OrderRefusal::Halted { place } => number("fault 12 order halted ", place),
     }
 }
 

@@ -22,6 +22,7 @@ pub(crate) fn serve_line(alloc: Global, caller: Caller, words: &[String]) -> Res
     ensures served { IfOk result (λ job. is_some (served_of job) ≡ true) }
     ensures limits { IfOk result IsWithinLimits }
     ensures no_fault { IfOk result (λ job. line_fault caller (map string_bytes words.now) ≡ None) }
+    ensures allowed { IfOk result (λ job. forbidden_word caller (map string_bytes words.now) job ≡ None) }
     ensures fault { IfErr result (IsFaultOfLine caller (map string_bytes words.now)) }
 {
     let job = line_of(alloc, words)?;
@@ -75,14 +76,12 @@ fn mode_word(before: u32, words: &[String]) -> u32
     }
 }
 
-// Whether the job is served; a save in threads isn't yet.
+// Whether the job is served; a save with a relay isn't yet.
 fn is_served(job: &Job) -> bool
     ensures { result ≡ is_some (served_of job.now) }
 {
     match job {
-        Job::Assemble | Job::CheckFile | Job::Workload { .. } => true,
-        Job::Restore { .. } | Job::Peek { .. } => true,
-        Job::Save { mode, .. } => *mode == Mode::Sliced,
-        _ => false,
+        Job::Save { mode, relay, .. } => *mode == Mode::Sliced || *relay == 0,
+        _ => true,
     }
 }

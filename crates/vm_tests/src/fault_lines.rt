@@ -10,7 +10,7 @@ use vm_words::UsageKind;
 
 /// A line that isn't served, its fault, and what is printed.
 #[rattlefmt::skip]
-static OTHER_LINES: [(&[&str], Fault, &str); 13] = [
+static OTHER_LINES: [(&[&str], Fault, &str); 12] = [
     (&[], Fault::Usage { index: 0, kind: UsageKind::NoCommand }, "fault 1 usage 0 no-command\n"),
     (&["stave", "image=a", "out=b"], Fault::Usage { index: 0, kind: UsageKind::Command }, "fault 1 usage 0 command\n"),
     (&["asm", "image=a", "out"], Fault::Usage { index: 2, kind: UsageKind::NoEquals }, "fault 1 usage 2 no-equals\n"),
@@ -30,7 +30,6 @@ static OTHER_LINES: [(&[&str], Fault, &str); 13] = [
         Fault::Usage { index: 4, kind: UsageKind::NeedsThreads },
         "fault 1 usage 4 needs-threads\n",
     ),
-    (&["layer", "in=a", "out=b"], Fault::NotYet, "fault 1 not-yet\n"),
     (
         &["record", "image=a", "out=b"],
         Fault::Usage { index: 0, kind: UsageKind::NeedsThreads },
@@ -54,25 +53,27 @@ fn every_other_line_is_answered_before_the_image(rt: HostRuntime) -> Result<(), 
     Ok(())
 }
 
-/// Lines that need threads.
-static WITH_THREADS: [&[&str]; 2] = [
-    &["save", "image=a", "out=b", "pages=1", "mode=threads"],
-    &["record", "image=a", "out=b"],
+/// A line that needs threads, and that isn't served yet.
+static WITH_RELAY: [&str; 6] = [
+    "save",
+    "image=a",
+    "out=b",
+    "pages=1",
+    "mode=threads",
+    "relay=1",
 ];
 
 #[test]
 fn the_call_with_threads_refuses_no_line_for_its_threads(rt: HostRuntime) -> Result<(), Fail> {
-    for words in WITH_THREADS {
-        let line = Line {
-            words,
-            image: &GUEST,
-            status: 1,
-            fault: Some(Fault::NotYet),
-            printed: "fault 1 not-yet\n",
-            ..READER
-        };
-        assert_eq!(rt; difference_in_threads(&rt, rt.alloc(), &line)?, None);
-    }
+    let line = Line {
+        words: &WITH_RELAY,
+        image: &GUEST,
+        status: 1,
+        fault: Some(Fault::NotYet),
+        printed: "fault 1 not-yet\n",
+        ..READER
+    };
+    assert_eq!(rt; difference_in_threads(&rt, rt.alloc(), &line)?, None);
     Ok(())
 }
 

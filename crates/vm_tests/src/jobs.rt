@@ -4,8 +4,7 @@ use std::process::Abort;
 use std::sync::Wait;
 use std::test::Fail;
 use std::thread::Threads;
-use test_lines::{Differs, Line, Outcome, difference_of, words, work_on};
-use vm_cli::rvsnap;
+use test_lines::{Differs, Line, answer_on_threads, difference_of};
 
 /// A gate that nobody may call.
 #[derive(Drop)]
@@ -29,17 +28,6 @@ pub(crate) fn difference_in_threads<R: Abort + Threads + Wait + Sync>(
     alloc: Global,
     line: &Line,
 ) -> Result<Option<Differs>, Fail> {
-    let words = words(alloc, line.words)?;
-    let mut files = work_on(alloc, line)?;
-    let answer = rvsnap(
-        rt,
-        alloc,
-        &words,
-        &mut files.image,
-        &mut files.input,
-        &mut files.output,
-        &mut files.console,
-        &ClosedGate { rt },
-    );
-    Ok(difference_of(&Outcome { answer, files }, line))
+    let done = answer_on_threads(rt, alloc, line, &ClosedGate { rt })?;
+    Ok(difference_of(&done, line))
 }

@@ -6,10 +6,9 @@ use Rattle.guest_asm.specs.Bytes.{Piece}
 use Rattle.guest_asm.specs.declared.assembler.TheConstants.{MAX_TEXT}
 use Rattle.guest_asm.specs.declared.fault.AsmKind.{AsmKind}
 use Rattle.image_file.specs.Image.{raw_of}
-use Rattle.image_file.specs.declared.image_refusal.ImageRefusal.{ImageRefusal}
 use Rattle.medium.specs.Count.{counted}
 use Rattle.medium.specs.States.{FileState, SourceState}
-use Rattle.vm_cli.specs.Jobs.Common.{IsDurable, IsFilledWith, IsReadWhole, Printing, print_step, read_image_step, write_output_step}
+use Rattle.vm_cli.specs.Jobs.Common.{IsDurable, IsFilledWith, IsReadWhole, Printing, length_fault, print_step, read_image_step, write_output_step}
 use Rattle.vm_cli.specs.Outside.{End, Outside}
 use Rattle.vm_cli.specs.Parts.{assembled_line}
 use Rattle.vm_cli.specs.Steps.{Step}
@@ -17,11 +16,6 @@ use Rattle.vm_cli.specs.declared.answer.Fault.{Fault}
 use Rattle.vm_cli.specs.declared.answer.Fault.TheVariants as faults
 
 -- ---- Steps
-
--- the fault of a text that is too long
-abbrev pub length_fault : Result (List ℕ) ImageRefusal → Option Fault
-length_fault (Err refusal) = Some (faults.ImageRefused refusal)
-length_fault (Ok text) = None
 
 -- the fault of a text with a wrong line
 abbrev pub wrong_line_fault : Result (List Piece) (ℕ × AsmKind) → Option Fault

@@ -1,5 +1,6 @@
 -- The steps that several jobs have, and what more than one job promises (this project's own, docs/COMMAND_LINE.md).
-use Rattle.std.specs.Prelude.{◌≡◌, ◌⊎◌, ℕ, Bool, true, false, nat_lt, List, [], ◌∷◌, ◌++◌, length, Option, Some, None, option_map, IfSome}
+use Rattle.std.specs.Prelude.{◌≡◌, ◌⊎◌, ◌≤◌, ℕ, Bool, true, false, nat_lt, List, [], ◌∷◌, ◌++◌, length, Option, Some, None, option_map, Result, Ok, Err, IfSome}
+use Rattle.image_file.specs.declared.image_refusal.ImageRefusal.{ImageRefusal}
 use Rattle.medium.specs.Bytes.{AddsFront, BecomesTold}
 use Rattle.medium.specs.Count.{HasRisen}
 use Rattle.medium.specs.Crash.{Only}
@@ -19,6 +20,11 @@ is_image_refusal _ = false
 -- the image is read, to its end or to a limit, and refused as its bytes call for
 abbrev pub read_image_step : (List ℕ → Option Fault) → SourceState → Step
 read_image_step refusal image = record { calls = Some Image; may_refuse = is_image_refusal; verdict = option_map refusal image.left }
+
+-- the fault of a text that is too long
+abbrev pub length_fault : Result (List ℕ) ImageRefusal → Option Fault
+length_fault (Err refusal) = Some (faults.ImageRefused refusal)
+length_fault (Ok text) = None
 
 abbrev pub is_not_empty : Fault → Bool
 is_not_empty (faults.NotEmpty len) = nat_lt 0 len
@@ -99,3 +105,16 @@ abbrev pub PrintsBehind : FaultPrinting
 PrintsBehind fault text old new =
     (new.taken ≡ option_map (λ before. before ++ (text ++ fault_line fault)) old.taken)
     ⊎ (BecomesTold (AddsBehind text (fault_line fault)) old.taken new.taken × HasRisen old.faults new.faults)
+
+-- ---- What is printed behind the work
+
+-- the line of a fault was printed, as far as the console went
+pub record AddsLine (fault : Fault) (old new : SinkState) : Type 0 where
+  pub printed : PrintsLine fault old new
+  pub front : BecomesTold (AddsFront (fault_line fault)) old.taken new.taken
+  pub more : old.faults ≤ new.faults
+
+-- behind the work of a job that ended so: nothing, or the line of its fault
+abbrev pub EndsLine : (same : Type 0) → Option Fault → SinkState → SinkState → Type 0
+EndsLine same None old new = same
+EndsLine same (Some fault) old new = AddsLine fault old new

@@ -1,16 +1,16 @@
--- The job of `save` on one thread: a machine boots, runs its first phase by rounds, is saved at that instant while it runs
--- its second phase, and is reported (this project's own, docs/COMMAND_LINE.md).
-use Rattle.std.specs.Prelude.{◌≡◌, ◌⊎◌, ◌≤◌, ℕ, List, [], ◌∷◌, Option, Some, None, Result, Ok, Err, IfSome}
-use Rattle.bg_saver.specs.Begin.{Begins, FailsToBegin, IsNotEmpty}
+-- The job of `save`: a machine boots, runs its first phase, is saved at that instant while it runs its second phase, and is
+-- reported (this project's own, docs/COMMAND_LINE.md).
+use Rattle.std.specs.Prelude.{◌≡◌, ◌⊎◌, ◌≤◌, ℕ, List, [], ◌∷◌, Option, Some, None, Ok, IfSome, IsSome}
+use Rattle.bg_run.specs.Phase.{IsBounded, RunsPhase}
+use Rattle.bg_saver.specs.Begin.{Begins, FailsToBegin, IsFirstByte, IsNotEmpty}
 use Rattle.bg_saver.specs.Saver.{SaverData}
+use Rattle.bg_saver.specs.Writes.{LeavesSince}
 use Rattle.bg_saver.specs.declared.save_end.SaveEnd.{SaveEnd}
 use Rattle.bg_saver.specs.declared.save_end.SaveEnd.TheVariants.{Complete, Failed}
 use Rattle.bg_saver.specs.declared.save_job.PhaseOut.{PhaseOut}
 use Rattle.file_plan.specs.Layout.{file_of}
 use Rattle.flat_machine.specs.Machine.{IsMachine, MachineData, Rest, boot}
 use Rattle.flat_machine.specs.Run.{Phase, rounds, run}
-use Rattle.image_file.specs.Image.{image_of}
-use Rattle.image_file.specs.declared.image_refusal.ImageRefusal.{ImageRefusal}
 use Rattle.loader.specs.Loaded.{loaded}
 use Rattle.medium.specs.Count.{HasRisen, counted}
 use Rattle.medium.specs.Crash.{Only}
@@ -18,39 +18,34 @@ use Rattle.medium.specs.States.{FileState, SinkState, SourceState}
 use Rattle.ram_block.specs.Shape.{ShapeData}
 use Rattle.sliced_run.specs.Phase.{IsPhaseOf}
 use Rattle.vm_cli.specs.Images.{IsCrashSafe, IsEmptyFile}
-use Rattle.vm_cli.specs.Jobs.Common.{FaultPrinting, IsFilledWith, IsReadWhole, Printing, Takes, TakesReport, print_step, read_image_step, write_output_step}
+use Rattle.vm_cli.specs.Jobs.Boot.{ReadsImage, boot_step}
+use Rattle.vm_cli.specs.Jobs.Common.{FaultPrinting, IsFilledWith, Printing, Takes, TakesReport, print_step, write_output_step}
 use Rattle.vm_cli.specs.Outside.{End, Outside}
 use Rattle.vm_cli.specs.Steps.{Step}
 use Rattle.vm_cli.specs.declared.answer.Fault.{Fault}
 use Rattle.vm_cli.specs.declared.answer.Fault.TheVariants as faults
-use Rattle.vm_cli.specs.Served.{SlicedPhases}
+use Rattle.vm_cli.specs.Served.{OnThreads, SavePhases, Sliced, Way}
 use Rattle.vm_report.specs.Report.{report}
 
 -- ---- Steps
-
--- the fault of an image that is refused
-abbrev pub image_fault : Result (List ℕ) ImageRefusal → Option Fault
-image_fault (Err refusal) = Some (faults.ImageRefused refusal)
-image_fault (Ok image) = None
 
 -- those of a save behind the boot
 abbrev pub save_machine_steps : FileState → List Step
 save_machine_steps output = write_output_step output ∷ print_step ∷ []
 
 abbrev pub save_steps : ShapeData → SourceState → FileState → List Step
-save_steps shape image output = read_image_step (λ bytes. image_fault (image_of bytes shape)) image ∷ save_machine_steps output
+save_steps shape image output = boot_step shape image ∷ save_machine_steps output
 
 -- ---- The instant
 
--- this is the image of a machine of the shape, and it was read to its end
-pub record ReadsImage (shape : ShapeData) (image : List ℕ) (old new : SourceState) : Type 0 where
-  pub read : IsReadWhole old new
-  pub accepted : IfSome old.left (λ bytes. image_of bytes shape ≡ Ok image)
+-- the order of a first phase is that of rounds where it goes by them; on threads any order is one
+abbrev pub IsOrderedBy : Way → MachineData → ℕ → List ℕ → Type 0
+IsOrderedBy (Sliced turns) b stop first = first ≡ rounds b stop
+IsOrderedBy OnThreads b stop first = Unit {0}
 
--- the machine b, which boots, ran a phase of so many instructions by rounds, in this order, and became the machine of the
--- instant
-pub record IsInstant (b : MachineData) (stop : ℕ) (first : List ℕ) (i : MachineData) : Type 0 where
-  pub by_rounds : first ≡ rounds b stop
+-- the machine b, which boots, ran a phase of so many instructions, in this order, and became the machine of the instant
+pub record IsInstant (way : Way) (b : MachineData) (stop : ℕ) (first : List ℕ) (i : MachineData) : Type 0 where
+  pub ordered : IsOrderedBy way b stop first
   pub ran : run b first ≡ Some i
   pub shape : i.shape ≡ b.shape
   pub phase : Phase b stop first
@@ -59,9 +54,19 @@ pub record IsInstant (b : MachineData) (stop : ℕ) (first : List ℕ) (i : Mach
 
 -- ---- A save that ran its second phase
 
--- the second phase from the instant on, by the turns, in this order; its save ended so
-pub record RunsOn (i : MachineData) (phases : SlicedPhases) (ended : SaveEnd) (second : List ℕ) (out : PhaseOut) : Type 0 where
-  pub phase : IsPhaseOf i phases.run phases.turns out
+-- the phase of n instructions from machine i on, on threads, with a save whose counts are bounded
+pub record RunsBeside (i : MachineData) (n : ℕ) (out : PhaseOut) : Type 0 where
+  pub phase : RunsPhase i n out
+  pub bounds : IsBounded i out
+
+-- the phase of n instructions from machine i on, and what it counted, by the way that it goes
+abbrev pub RunsBy : Way → MachineData → ℕ → PhaseOut → Type 0
+RunsBy (Sliced turns) i n out = IsPhaseOf i n turns out
+RunsBy OnThreads i n out = RunsBeside i n out
+
+-- the second phase from the instant on, in this order; its save ended so
+pub record RunsOn (i : MachineData) (phases : SavePhases) (ended : SaveEnd) (second : List ℕ) (out : PhaseOut) : Type 0 where
+  pub phase : RunsBy phases.way i phases.run out
   pub saved : out.saved ≡ Some ended
   pub order : second ≡ out.order.members
 
@@ -87,28 +92,28 @@ abbrev pub KeepsImages : MachineData → FileState → FileState → Type 0
 KeepsImages i old new = IsEmptyFile old → LeavesImages i old new
 
 -- the machine b was saved, completely
-pub record SavesMachine (b : MachineData) (phases : SlicedPhases) (old new : FileState) (end : End) : Type 0 where
+pub record SavesMachine (b : MachineData) (phases : SavePhases) (old new : FileState) (end : End) : Type 0 where
   pub instant : MachineData
   pub out : PhaseOut
-  pub first : IsInstant b phases.stop end.first instant
+  pub first : IsInstant phases.way b phases.stop end.first instant
   pub second : RunsOn instant phases Complete end.second out
   pub file : WritesInstant instant old new
   pub crash : KeepsImages instant old new
 
 -- A call on the output failed while the second phase ran, behind the first sync: the phase came to its end without the
 -- save.
-pub record FailsMachine (b : MachineData) (phases : SlicedPhases) (old new : FileState) (end : End) : Type 0 where
+pub record FailsMachine (b : MachineData) (phases : SavePhases) (old new : FileState) (end : End) : Type 0 where
   pub fault : end.fault ≡ Some faults.FileFault
   pub instant : MachineData
   pub out : PhaseOut
-  pub first : IsInstant b phases.stop end.first instant
+  pub first : IsInstant phases.way b phases.stop end.first instant
   pub second : RunsOn instant phases Failed end.second out
   pub rose : HasRisen old.faults new.faults
   pub synced : counted old.syncs ≤ new.syncs
   pub crash : KeepsImages instant old new
 
 -- and was reported
-pub record ReportsFailed (cut : FaultPrinting) (b : MachineData) (phases : SlicedPhases) (old new : FileState) (console console_now : SinkState) (end : End) : Type 0 where
+pub record ReportsFailed (cut : FaultPrinting) (b : MachineData) (phases : SavePhases) (old new : FileState) (console console_now : SinkState) (end : End) : Type 0 where
   pub failed : FailsMachine b phases old new end
   pub printed : cut faults.FileFault (report_of Failed failed.out) console console_now
 
@@ -129,9 +134,9 @@ LeavesAtInstant i same old new (Some faults.NoMemory) = same ⊎ ((d : SaverData
 LeavesAtInstant i same old new _ = ⊥
 
 -- the first phase had ended
-pub record EndsAtInstant (b : MachineData) (phases : SlicedPhases) (same_output : Type 0) (old new : FileState) (end : End) : Type 0 where
+pub record EndsAtInstant (b : MachineData) (phases : SavePhases) (same_output : Type 0) (old new : FileState) (end : End) : Type 0 where
   pub instant : MachineData
-  pub first : IsInstant b phases.stop end.first instant
+  pub first : IsInstant phases.way b phases.stop end.first instant
   pub second : end.second ≡ []
   pub output : LeavesAtInstant instant same_output old new end.fault
   pub crash : KeepsImages instant old new
@@ -146,22 +151,18 @@ IsBeforePhases (Some faults.NoMemory) = Unit {0}
 IsBeforePhases _ = ⊥
 
 -- the machine b wasn't saved: the end came before its first phase ended, or at the instant
-abbrev pub LeavesMachine : MachineData → SlicedPhases → Type 0 → FileState → FileState → End → Type 0
+abbrev pub LeavesMachine : MachineData → SavePhases → Type 0 → FileState → FileState → End → Type 0
 LeavesMachine b phases same_output old new end =
     (IsBeforePhases end.fault × EndsBeforePhases same_output end) ⊎ EndsAtInstant b phases same_output old new end
 
 -- ---- The parts of the work, one by one
 
--- the faults of an image
-abbrev pub IsOfImage : Fault → Type 0
-IsOfImage (faults.ImageRefused refusal) = Unit {0}
-IsOfImage faults.ImageFault = Unit {0}
-IsOfImage faults.NoMemory = Unit {0}
-IsOfImage _ = ⊥
-
--- the machine b boots with an image that was read
-abbrev pub BootsImage : ShapeData → List ℕ → SourceState → SourceState → MachineData → Type 0
-BootsImage shape input old new b = (image : List ℕ) × ReadsImage shape image old new × (b ≡ boot shape image input)
+-- the save of machine i, which was stopped, began on an output that was empty, and each image since has at most its gate byte
+pub record HasBegun (i : MachineData) (old new : FileState) (stopped : MachineData) (d : SaverData) : Type 0 where
+  pub same : stopped ≡ i
+  pub begins : Begins i old new d
+  pub told : IfSome old.told (λ _. IsSome new.told)
+  pub images : Only [] old.may_leave → LeavesSince old new IsFirstByte
 
 -- what the output holds behind the second phase, by how the save ended
 abbrev pub LeavesSaved : MachineData → Option SaveEnd → FileState → FileState → Type 0
@@ -169,30 +170,30 @@ LeavesSaved i (Some Complete) old new = WritesInstant i old new
 LeavesSaved i (Some Failed) old new = HasRisen old.faults new.faults × (counted old.syncs ≤ new.syncs)
 LeavesSaved i None old new = ⊥
 
--- how the job ends with the report of a save, and what stands on the console then
-abbrev pub EndsReported : SaveEnd → PhaseOut → Option Fault → SinkState → SinkState → Type 0
-EndsReported Complete out None old new = Takes None (report_of Complete out) old new
-EndsReported Complete out (Some faults.ConsoleFault) old new = Takes (Some faults.ConsoleFault) (report_of Complete out) old new × HasRisen old.faults new.faults
-EndsReported Failed out (Some faults.FileFault) old new = TakesReport faults.FileFault (report_of Failed out) old new
+-- how the job ends with the report of a save that ended so, and what stands on the console then
+abbrev pub EndsReported : Option SaveEnd → PhaseOut → Option Fault → SinkState → SinkState → Type 0
+EndsReported (Some Complete) out None old new = Takes None (report_of Complete out) old new
+EndsReported (Some Complete) out (Some faults.ConsoleFault) old new = Takes (Some faults.ConsoleFault) (report_of Complete out) old new × HasRisen old.faults new.faults
+EndsReported (Some Failed) out (Some faults.FileFault) old new = TakesReport faults.FileFault (report_of Failed out) old new
 EndsReported ended out _ old new = ⊥
 
 -- ---- The job
 
 -- its work came to its end
-pub record Saves (prints : Printing) (shape : ShapeData) (input : List ℕ) (phases : SlicedPhases) (old new : Outside) (end : End) : Type 0 where
+pub record Saves (prints : Printing) (shape : ShapeData) (input : List ℕ) (phases : SavePhases) (old new : Outside) (end : End) : Type 0 where
   pub image : List ℕ
   pub taken : ReadsImage shape image old.image new.image
   pub saved : SavesMachine (boot shape image input) phases old.output new.output end
   pub printed : prints end.fault (report_of Complete saved.out) old.console new.console
 
 -- its save failed
-pub record FailsToSave (cut : FaultPrinting) (shape : ShapeData) (input : List ℕ) (phases : SlicedPhases) (old new : Outside) (end : End) : Type 0 where
+pub record FailsToSave (cut : FaultPrinting) (shape : ShapeData) (input : List ℕ) (phases : SavePhases) (old new : Outside) (end : End) : Type 0 where
   pub image : List ℕ
   pub taken : ReadsImage shape image old.image new.image
   pub reported : ReportsFailed cut (boot shape image input) phases old.output new.output old.console new.console end
 
 -- it ended before its second phase: at its image, or with the machine
-abbrev pub EndsEarly : ShapeData → List ℕ → SlicedPhases → SourceState → SourceState → Type 0 → FileState → FileState → End → Type 0
+abbrev pub EndsEarly : ShapeData → List ℕ → SavePhases → SourceState → SourceState → Type 0 → FileState → FileState → End → Type 0
 EndsEarly shape input phases image image_now same_output old new end =
     (IsBeforePhases end.fault × EndsBeforePhases same_output end)
     ⊎ ((bytes : List ℕ) × ReadsImage shape bytes image image_now × EndsAtInstant (boot shape bytes input) phases same_output old new end)

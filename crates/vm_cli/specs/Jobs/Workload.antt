@@ -16,7 +16,7 @@ use Rattle.vm_cli.specs.Outside.{End, Outside}
 use Rattle.vm_cli.specs.Steps.{Output, Step}
 use Rattle.vm_cli.specs.declared.answer.Fault.{Fault}
 use Rattle.vm_cli.specs.declared.answer.Fault.TheVariants as faults
-use Rattle.vm_cli.specs.Served.{SlicedPhases}
+use Rattle.vm_cli.specs.Served.{SavePhases, Sliced}
 use Rattle.vm_cli.specs.declared.workload.TheConstants.{BLOCKS, PAGES, RUN, STOP, VCPUS}
 use Rattle.vm_report.specs.Report.{ok_line}
 
@@ -30,8 +30,8 @@ abbrev pub workload_machine : ℕ → MachineData
 workload_machine seed = boot workload_shape (work seed) []
 
 -- its phases, with as many turns as a save has that names none
-abbrev pub workload_phases : ℕ → SlicedPhases
-workload_phases seed = record { stop = STOP; run = RUN; turns = turns_drawn seed VCPUS MAX_TURNS }
+abbrev pub workload_phases : ℕ → SavePhases
+workload_phases seed = record { stop = STOP; run = RUN; way = Sliced (turns_drawn seed VCPUS MAX_TURNS) }
 
 -- ---- Steps
 

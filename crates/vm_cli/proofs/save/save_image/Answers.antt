@@ -4,9 +4,10 @@ use Rattle.image_file.specs.Image.{image_of}
 use Rattle.medium.specs.Members.{file_state, source_state}
 use Rattle.vm_cli.specs.Answer.{fault_in}
 use Rattle.vm_cli.specs.Jobs.Common.{read_image_step}
-use Rattle.vm_cli.specs.Jobs.Save.{BootsImage, image_fault, save_machine_steps, save_steps}
+use Rattle.vm_cli.specs.Jobs.Boot.{BootsImage, image_fault}
+use Rattle.vm_cli.specs.Jobs.Save.{save_machine_steps, save_steps}
 use Rattle.vm_cli.specs.Outside.{end_of}
-use Rattle.vm_cli.proofs.Boot.{boot_has, boot_turns}
+use Rattle.vm_cli.proofs.Boots.{boot_has, boot_turns}
 use Rattle.vm_cli.proofs.Causes.{ended_cause, passed}
 use Rattle.vm_cli.proofs.Jobs.{failed_with}
 use Rattle.vm_cli.proofs.SaveImages.{image_done}

@@ -1,40 +1,43 @@
 -- A save that ran its second phase ends the job by its report.
-use Rattle.std.proofs.Common.{inr, refl}
-use Rattle.vm_cli.specs.Answer.{fault_in}
-use Rattle.vm_cli.specs.Outside.{End, end_of}
-use Rattle.vm_cli.specs.Served.{SlicedPhases}
-use Rattle.vm_cli.proofs.SaveEnds.{done_by, failed_by}
+use Rattle.std.proofs.Common.{◌≡◌, inl, inr, refl, sym, subst}
+use Rattle.medium.specs.Members.{file_state}
+use Rattle.vm_cli.specs.Jobs.Save.{LeavesAtInstant}
+use Rattle.vm_cli.specs.Served.{Sliced}
+use Rattle.vm_cli.proofs.Jobs.{failed_with}
+use Rattle.vm_cli.proofs.SaveEnds.{done_by, failed_by, has_saved}
 use Rattle.vm_cli.proofs.save.save_machine.Goals as goal
-use Rattle.vm_cli.proofs.save.save_machine.Goals.{After-drop-out-4}
-
-abbrev phases : (g : _) (c : After-drop-out-4 g) → SlicedPhases
-phases g c = record { stop = c.args.stop; run = c.args.run; turns = c.args.turns.now }
-
-abbrev end : (g : _) (c : After-drop-out-4 g) → End
-end g c = end_of (fault_in c.report_save-ended.result) (record { first = c.in_ok-orders.field-0; second = c.in_ok-out.out.order })
 
 pub returns-clause-done : goal.returns-clause-done
 returns-clause-done g c =
-    done_by c.args.machine (phases g c) c.reach_instant.new.machine c.in_ok-out.out c.in-Some.end _ _ _ _ (end g c)
-    (record {
-      first = c.in_ok-orders.ensures.instant;
-      phase = c.in_ok-out.ensures.phase;
-      ended = c.in-Some.is;
-      order = refl;
-      file = c.in_ok-out.ensures.saved;
-      crash = c.in_ok-out.ensures.crash;
-    })
-    c.report_save-ended.ensures.report
+    let saved = c.in_ok-out.ensures in
+    let ends = c.end_save.ensures in
+    done_by c.args.machine (record { stop = c.args.stop; run = c.args.run; way = Sliced c.args.turns.now }) c.reach_instant.new.machine c.in_ok-out.out _ _ _ _ _
+    (has_saved c.args.machine (record { stop = c.args.stop; run = c.args.run; way = Sliced c.args.turns.now }) c.reach_instant.new.machine c.in_ok-out.out _ _ (record { first = c.in_ok-orders.field-0; second = c.in_ok-out.out.order }) c.end_save.new.orders _
+    (c.in_ok-orders.ensures.instant c.args.turns.now) saved.phase saved.saved saved.crash ends.first ends.second)
+    ends.report
 
 pub returns-clause-failed : goal.returns-clause-failed
 returns-clause-failed g c = λ fault is other.
-    inr (failed_by c.args.machine (phases g c) c.reach_instant.new.machine c.in_ok-out.out c.in-Some.end _ _ _ _ (end g c)
-    (record {
-      first = c.in_ok-orders.ensures.instant;
-      phase = c.in_ok-out.ensures.phase;
-      ended = c.in-Some.is;
-      order = refl;
-      file = c.in_ok-out.ensures.saved;
-      crash = c.in_ok-out.ensures.crash;
-    })
-    c.report_save-ended.ensures.report fault is other)
+    let saved = c.in_ok-out.ensures in
+    let ends = c.end_save.ensures in
+    inr (failed_by c.args.machine (record { stop = c.args.stop; run = c.args.run; way = Sliced c.args.turns.now }) c.reach_instant.new.machine c.in_ok-out.out _ _ _ _ _
+    (has_saved c.args.machine (record { stop = c.args.stop; run = c.args.run; way = Sliced c.args.turns.now }) c.reach_instant.new.machine c.in_ok-out.out _ _ (record { first = c.in_ok-orders.field-0; second = c.in_ok-out.out.order }) c.end_save.new.orders _
+    (c.in_ok-orders.ensures.instant c.args.turns.now) saved.phase saved.saved saved.crash ends.first ends.second)
+    ends.report fault is other)
+
+pub save_instant-requires-clause-rest : goal.save_instant-requires-clause-rest
+save_instant-requires-clause-rest g c = (c.in_ok-orders.ensures.instant c.args.turns.now).rest
+
+pub returns-in_err-out-clause-failed : goal.returns-in_err-out-clause-failed
+returns-in_err-out-clause-failed g c = λ fault is other.
+    inl (
+      inr (record {
+        instant = c.reach_instant.new.machine;
+        first = c.in_ok-orders.ensures.instant c.args.turns.now;
+        second = c.requires.second;
+        output = subst (λ f. LeavesAtInstant c.reach_instant.new.machine (c.save_instant.new.output ≡ c.args.output.now) (file_state g.M.Readable c.args.output.now) (file_state g.M.Readable c.save_instant.new.output) f)
+            (sym (failed_with _ _ c.from_residual-in_err-out.ensures)) c.in_err-out.ensures.unsaved;
+        crash = c.in_err-out.ensures.crash;
+      }),
+      refl,
+    )

@@ -5,7 +5,7 @@ use Rattle.vm_cli.specs.Answer.{fault_in}
 use Rattle.vm_cli.specs.Jobs.Common.{print_step}
 use Rattle.vm_cli.specs.Jobs.Save.{save_machine_steps}
 use Rattle.vm_cli.specs.Jobs.Workload.{load_saved_step, workload_steps}
-use Rattle.vm_cli.proofs.Boot.{workload_room, workload_turns}
+use Rattle.vm_cli.proofs.Boots.{workload_room, workload_turns}
 use Rattle.vm_cli.proofs.Causes.{ended_cause}
 use Rattle.vm_cli.proofs.Jobs.{before_console, failed_with}
 use Rattle.vm_cli.proofs.SavedLoads.{cause_behind, cut_done, fails_later, never_full, whole_cause, whole_done}
