@@ -1,6 +1,6 @@
 -- The phase that a bus leaves when its workers have come to their end.
-use Rattle.std.proofs.Common.{◌≡◌, ℕ, suc, Bool, ◌+◌, ◌-◌, ◌^◌, min, List, [], ◌∷◌, length, Some, refl, sym, ◌∙◌, ap, subst, arith}
-use Rattle.std.specs.List.{slice_get, sum_by}
+use Rattle.std.proofs.Common.{◌≡◌, ◌≤◌, ℕ, suc, Bool, true, ◌+◌, ◌-◌, ◌^◌, min, List, [], ◌∷◌, length, Some, refl, sym, ◌∙◌, ap, subst, arith}
+use Rattle.std.specs.List.{count_by, slice_get, sum_by}
 use Rattle.std.proofs.lemmas.List.Sums.{sum_by-cons}
 use Rattle.std.proofs.lemmas.Option.{none-some, same_Some}
 use Rattle.ram_block.specs.Shape.{total_pages_of}
@@ -10,7 +10,7 @@ use Rattle.flat_machine.proofs.PhaseEnds.{phase_pending}
 use Rattle.bus_rule.specs.Faults.{IsWritten}
 use Rattle.page_bus.specs.Closing.{AreAllOf, Closes, NoneWritten}
 use Rattle.page_bus.specs.Opening.{IsOpened}
-use Rattle.page_bus.specs.Passes.{BusData, IsBus, SaverKey, SaverPassData, VcpuPassData, task_of}
+use Rattle.page_bus.specs.Passes.{BusData, IsBus, SaverKey, SaverPassData, VcpuPassData, book_of, task_of}
 use Rattle.page_bus.specs.Plant.{IsAtStart, end_state}
 use Rattle.bg_saver.specs.Saver.{SaverData, total_of}
 use Rattle.bg_saver.specs.Save.{IsAtInstant}
@@ -18,7 +18,7 @@ use Rattle.bg_saver.specs.declared.counts.Counts.{Counts}
 use Rattle.bg_saver.specs.declared.save_end.SaveEnd.{SaveEnd}
 use Rattle.bg_saver.specs.declared.save_end.SaveEnd.TheVariants.{Complete, Failed}
 use Rattle.bg_saver.specs.declared.save_job.PhaseOut.{PhaseOut}
-use Rattle.bg_run.specs.Phase.{EndsSaved, RunsPhase}
+use Rattle.bg_run.specs.Phase.{EndsSaved, IsBounded, RunsPhase}
 use Rattle.bg_run.specs.Workers.{AreStepped, EndsSave, instant_of}
 use Rattle.bg_run.proofs.Steps.{all_over}
 
@@ -47,6 +47,26 @@ none_summed (p ∷ passes) each =
     let rest = none_summed passes (λ j q there. each (suc j) q there) in
     sum_by-cons (λ (q : VcpuPassData). (task_of q.view).blocked) p passes ∙ (let a : (task_of p.view).blocked ≡ 0 = here in omega (arith, a, rest))
 
+-- What was counted is bounded, where each page that counts as a fault was picked.
+pub bounded : (i : MachineData) (n : ℕ) (protect : Bool) (bus : BusData) (old new : List VcpuPassData) (pass other : SaverPassData) (flags : List Bool) (out : PhaseOut) →
+    Rest i → IsOpened i n protect bus old pass → IsBus bus → RunsPhase i n out → Closes bus new other out.machine out.order.members →
+    (out.saved ≡ Some Complete → out.counts.faults + out.counts.sweep ≡ total_pages_of i.shape) → out.counts.faults + out.counts.sweep ≤ total_pages_of i.shape →
+    out.counts.faults ≡ count_by (λ (flag : Bool). flag) flags → ((p : ℕ) → slice_get flags p ≡ Some true → slice_get (book_of other.view).picked p ≡ Some true) →
+    out.blocked ≡ min (sum_by (λ (p : VcpuPassData). (task_of p.view).blocked) new) (2 ^ 64 - 1) → IsBounded i out
+bounded i n protect bus old new pass other flags out rest opened is phase closes all most counted picked blocked =
+    let started : bus.instant ≡ i = ap (λ (b : BusData). b.instant) opened.bus_from in
+    let pending = phase_pending i n out.order.members out.machine rest (subst (λ (m : MachineData). length m.vcpus ≡ m.shape.vcpus) started is.machine.vcpus) phase.phase phase.ran in
+    record {
+      all = all;
+      most = most;
+      faults = record {
+        flags = flags;
+        counted = counted;
+        each = λ p set. subst (λ (m : MachineData). IsWritten m out.order.members p) started (closes.picked pending p (picked p set));
+      };
+      calm = λ none. blocked ∙ ap (λ s. min s (2 ^ 64 - 1)) (none_summed new (closes.calm pending (subst (λ (m : MachineData). NoneWritten m out.order.members) (sym started) none)));
+    }
+
 other_end : Complete ≡ Failed → ⊥
 other_end same = cc same
 
@@ -55,27 +75,20 @@ pub ends_saved : (i : MachineData) (n : ℕ) (protect : Bool) (bus : BusData) (o
     Rest i → IsOpened i n protect bus old pass → IsBus bus → RunsPhase i n out → EndsSave bus pass end now other saver → Closes bus new other out.machine out.order.members →
     out.saved ≡ Some end → out.counts ≡ saver.counts → out.blocked ≡ min (sum_by (λ (p : VcpuPassData). (task_of p.view).blocked) new) (2 ^ 64 - 1) → EndsSaved i saver out
 ends_saved i n protect bus old new pass other saver end now out rest opened is phase ends closes saved counts blocked =
-    let started : bus.instant ≡ i = ap (λ (b : BusData). b.instant) opened.bus_from in
-    let pending = phase_pending i n out.order.members out.machine rest (subst (λ (m : MachineData). length m.vcpus ≡ m.shape.vcpus) started is.machine.vcpus) phase.phase phase.ran in
     let total : total_of saver ≡ total_pages_of i.shape =
     sym ends.keeps.save.total ∙ ap (λ (y : SaverKey). total_pages_of y.instant.shape) ends.keeps.key
     ∙ ap (λ (m : MachineData). total_pages_of m.shape) (starts_at i n protect bus old pass opened) in
+    let most : out.counts.faults + out.counts.sweep ≤ total_pages_of i.shape =
+    (let m = ends.limits.most in
+    let c = ap (λ (c : Counts). c.faults + c.sweep) counts in
+    omega (arith, m, c, total)) in
     record {
       ended = λ none. none-some end (sym none ∙ saved);
       saved = saved ∙ sym ends.ended;
       counts = counts;
-      bounds = record {
-        all = λ complete. ap (λ (c : Counts). c.faults + c.sweep) counts ∙ all_counted total (sym saved ∙ complete);
-        most = (let m = ends.limits.most in
-            let c = ap (λ (c : Counts). c.faults + c.sweep) counts in
-            omega (arith, m, c, total));
-        faults = record {
-          flags = saver.faulted;
-          counted = ap (λ (c : Counts). c.faults) counts ∙ ends.limits.faults;
-          each = λ p set. subst (λ (m : MachineData). IsWritten m out.order.members p) started (closes.picked pending p (ends.keeps.save.picked p set));
-        };
-        calm = λ none. blocked ∙ ap (λ s. min s (2 ^ 64 - 1)) (none_summed new (closes.calm pending (subst (λ (m : MachineData). NoneWritten m out.order.members) (sym started) none)));
-      };
+      bounds = bounded i n protect bus old new pass other saver.faulted out rest opened is phase closes
+          (λ complete. ap (λ (c : Counts). c.faults + c.sweep) counts ∙ all_counted total (sym saved ∙ complete)) most
+          (ap (λ (c : Counts). c.faults) counts ∙ ends.limits.faults) ends.keeps.save.picked blocked;
     }
   where
     all_counted : total_of saver ≡ total_pages_of i.shape → Some end ≡ Some Complete → saver.counts.faults + saver.counts.sweep ≡ total_pages_of i.shape

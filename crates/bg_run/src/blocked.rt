@@ -5,7 +5,7 @@ ghost use Rattle.page_bus.specs.Passes.{task_of};
 use page_bus::VcpuPass;
 
 /// How often a vCPU was stopped, over all of them, or the greatest u64 where it was more often.
-pub(crate) fn blocked_of(passes: &Vec<VcpuPass>) -> u64
+pub fn blocked_of(passes: &Vec<VcpuPass>) -> u64
     ensures { result ≡ min (sum_by (λ p. (task_of p.view).blocked) passes.now.items) (2 ^ 64 - 1) }
 {
     let mut blocked = 0u64;

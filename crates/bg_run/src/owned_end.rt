@@ -10,9 +10,9 @@ use page_cell::{PageBuf, Pick, Plant, Taken};
 
 /// The bus as the saver sees it, with the saver's pass itself. Behind a `&mut` to a plant nothing is known of what the plant
 /// borrows, and the pass has to come back whole for the bus to close.
-pub(crate) struct OwnedEnd<'a> {
-    pub(crate) bus: &'a Bus,
-    pub(crate) pass: SaverPass,
+pub struct OwnedEnd<'a> {
+    pub bus: &'a Bus,
+    pub pass: SaverPass,
 }
 
 impl Plant for OwnedEnd<'_> {

@@ -10,8 +10,8 @@ use std::sync::Wait;
 use std::thread;
 use std::thread::{Threads, yield_now};
 
-/// The workers of all vCPUs, each on a thread of its own.
-pub(crate) fn step_all<R: Threads + Wait + Sync, G: Gate>(
+/// The workers of all vCPUs, each on a thread of its own, until the phase of each has ended.
+pub fn step_all<R: Threads + Wait + Sync, G: Gate>(
     rt: &R,
     bus: &Bus,
     passes: &mut Vec<VcpuPass>,
