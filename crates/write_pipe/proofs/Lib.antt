@@ -1,8 +1,12 @@
 pub mod Beginnings
+pub mod Copies
 pub mod CopyEnds
 pub mod CopyTurns
 pub mod Inlets
 pub mod Openings
 pub mod Outlets
+pub mod Relays
 pub mod Rules
+pub mod Sends
 pub mod WriteEnds
+pub mod Writes

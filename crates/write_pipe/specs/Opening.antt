@@ -5,6 +5,7 @@ use Rattle.atomic_table.specs.Seated.{TableId}
 use Rattle.write_pipe.specs.CopyEnd.{CopyData}
 use Rattle.write_pipe.specs.Inlet.{InletData}
 use Rattle.write_pipe.specs.Outlet.{OutletData}
+use Rattle.write_pipe.specs.WriteEnd.{WriteData}
 
 module _ {P : Type 0} where
   -- no page has gone in
@@ -25,4 +26,16 @@ module _ {P : Type 0} where
     counts = record { faults = 0; sweep = 0 };
     faulted = replicate pages false;
     found_none = 0;
+  }
+
+  -- no page is in hand, and none was picked or taken
+  abbrev pub takes_none : OutletData P → ℕ → WriteData P
+  takes_none outlet pages = record {
+    outlet = outlet;
+    hand = None;
+    writable = replicate pages false;
+    picked = replicate pages false;
+    busy = 0;
+    picks = 0;
+    last = None;
   }

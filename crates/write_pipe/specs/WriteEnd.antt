@@ -153,6 +153,17 @@ module _ {P : Type 0} (total : P → ℕ) (opened : P → List Bool) (stands : P
     pub hand : d.hand ≡ None
     pub all : length d.outlet.out ≡ total d.outlet.from
 
+  -- no page is in hand, and not all have come out
+  pub record LacksPage (d : WriteData P) : Type 0 where
+    pub hand : d.hand ≡ None
+    pub some : length d.outlet.out ≡ total d.outlet.from → ⊥
+
+  -- A page may have come into hand; nothing else changed but the queue.
+  pub record BringsPage (old new : WriteData P) : Type 0 where
+    pub from : new.outlet.from ≡ old.outlet.from
+    pub same : record new { outlet = old.outlet; hand = old.hand } ≡ old
+    pub limits : IsWriteEnd new
+
   -- what a discard leaves
   abbrev pub LeavesDiscard : WriteData P → Discard → WriteData P → Type 0
   LeavesDiscard old (discards.Took p) new = TookPage old old.hand p new

@@ -1,10 +1,12 @@
-ghost use Rattle.std.specs.Prelude.{◌≡◌, [], IfOk};
+ghost use Rattle.std.specs.Prelude.{◌≡◌, [], All, IfOk, false};
 ghost use Rattle.std.specs.List.{range_with_len};
 ghost use Rattle.page_sweep.specs.Sweep.{IsSweep};
-ghost use Rattle.write_pipe.specs.Opening.{copies_all};
+ghost use Rattle.write_pipe.specs.Opening.{copies_all, takes_none};
 
 use crate::copy_end::CopyEnd;
 use crate::inlet::Inlet;
+use crate::outlet::Outlet;
+use crate::write_end::WriteEnd;
 use bg_saver::Counts;
 use crossbeam_queue::ArrayQueue;
 use page_cell::{PageBuf, Plant};
@@ -51,4 +53,31 @@ fn full_sweep(alloc: Global, pages: u32) -> Result<Sweep, NoMemory>
     let sweep = Sweep::full(alloc, pages)?;
     let _left = sweep.left();
     Ok(sweep)
+}
+
+/// The end of the saver, with no page in hand and none taken.
+pub(crate) fn write_end<P: Plant>(
+    alloc: Global,
+    outlet: Outlet<P>,
+    spares: Arc<ArrayQueue<PageBuf>, Global>,
+    pages: u32,
+) -> Result<WriteEnd<P>, NoMemory>
+    requires origin { P.fits outlet.from }
+    requires protected { All (λ w. w ≡ false) (P.writable outlet.from) }
+    requires pages { pages ≡ P.total outlet.from }
+    ensures { IfOk result (λ end. end ≡ takes_none outlet pages) }
+{
+    let writable = vec![in alloc; false; pages as usize]?;
+    let picked = vec![in alloc; false; pages as usize]?;
+    Ok(WriteEnd {
+        outlet,
+        spares,
+        hand: None,
+        emptied: None,
+        writable,
+        picked,
+        busy: 0,
+        picks: 0,
+        last: None,
+    })
 }

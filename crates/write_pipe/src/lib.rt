@@ -5,19 +5,27 @@
 #![tactic(auto)]
 
 mod begin;
+mod beside;
 mod copy_end;
 mod copy_turn;
+mod copying;
 mod fetch;
 mod filled;
 mod inlet;
 mod open;
 mod outlet;
+mod relay_pages;
 mod rule;
+mod run;
+mod spares;
 mod write_end;
+mod writing;
 
 pub use copy_end::CopyEnd;
 pub use copy_turn::CopyTurn;
 pub use fetch::{Discard, Fetch};
 pub use inlet::Inlet;
 pub use outlet::Outlet;
+pub use relay_pages::{MAX_ROOM, relay};
+pub use run::run_relayed;
 pub use write_end::WriteEnd;

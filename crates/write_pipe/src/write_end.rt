@@ -1,6 +1,6 @@
 ghost use Rattle.std.specs.Prelude.{◌≡◌, ◌<◌, ◌↔◌, None, true};
 ghost use Rattle.page_cell.specs.Plant.{LeavesPick, LeavesTake};
-ghost use Rattle.write_pipe.specs.WriteEnd.{IsDrained, IsWriteEnd, LeavesDiscard, LeavesFetch, after_pick, after_take, is_held, is_open, pick_from, taken_by, write_state};
+ghost use Rattle.write_pipe.specs.WriteEnd.{IsDrained, IsWriteEnd, LacksPage, LeavesDiscard, LeavesFetch, after_pick, after_take, is_held, is_open, pick_from, taken_by, write_state};
 ghost use Rattle.ram_block.specs.PageLinks.{is_listed};
 ghost use Rattle.page_cell.specs.declared.plant.Taken.TheVariants as takes;
 ghost use Rattle.write_pipe.specs.declared.fetch.Discard.TheVariants.{Done, Took};
@@ -69,6 +69,14 @@ impl<P: Plant> WriteEnd<P> {
             Some(hand) => self.drop_page(rt, hand),
             None => self.drop_next(rt),
         }
+    }
+
+    /// Whether no page is in hand, and not all have come out of the queue.
+    pub(crate) fn lacks_page(&self) -> bool
+        ensures lacks { result ≡ true ↔ LacksPage P.total P.writable P.stands P.fits self.now }
+        ensures limits { IsWriteEnd P.total P.writable P.stands P.fits self.now }
+    {
+        self.hand.is_none() && !self.outlet.is_drained()
     }
 
     // Gives the emptied buffer back. The queue of the spares has room for all of them.
