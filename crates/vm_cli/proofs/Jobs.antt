@@ -1,6 +1,6 @@
 -- The work of a job by the job of its line, and of a line that isn't served.
-use Rattle.std.proofs.Common.{◌≡◌, ◌⊎◌, inl, inr, ℕ, zero, suc, ◌+◌, ◌<◌, ◌≤◌, List, [], length, Option, Some, None, Result, Ok, Err, refl, sym, ap, subst, arith}
-use Rattle.std.specs.Prelude.{true, is_some, IsErr, IsErrAnd}
+use Rattle.std.proofs.Common.{◌≡◌, ◌⊎◌, inl, inr, ℕ, ◌+◌, ◌<◌, ◌≤◌, List, [], length, Option, Some, None, Result, Ok, Err, refl, sym, ap, subst, arith}
+use Rattle.std.specs.Prelude.{IsErr, IsErrAnd}
 use Rattle.vm_words.specs.Limits.{IsSave}
 use Rattle.vm_words.specs.declared.job.Job.{Job}
 use Rattle.vm_words.specs.declared.job.Job.TheVariants as jobs
@@ -33,7 +33,7 @@ use Rattle.vm_cli.specs.declared.words.Caller.{Caller}
 use Rattle.vm_cli.specs.declared.words.Caller.TheVariants.{Still}
 use Rattle.flat_machine.specs.Machine.{boot}
 use Rattle.ram_block.specs.Shape.{ShapeData}
-use Rattle.vm_cli.specs.Served.{Assembly, CheckFile, Join, Layer, LazyRestore, OnThreads, Peek, Record, Replay, Restore, Save, SavePhases, Served, Sliced, Workload}
+use Rattle.vm_cli.specs.Served.{Assembly, CheckFile, Join, Layer, LazyRestore, Peek, Record, Replay, Restore, Save, SavePhases, Served, Sliced, Workload}
 use Rattle.vm_cli.proofs.Causes.{always, passed}
 
 -- ---- Nothing was done
@@ -67,7 +67,6 @@ unwritten_crash shows old new fault only_now same leaves (inr full) = looked_at 
 fault_cause : (old new : Faults) (caller : Caller) (words : List (List ℕ)) (it : Outside) (fault : Fault) → IsFaultOfLine caller words fault
     → HasCause old new (steps_of caller words it) (Some fault)
 fault_cause old new caller words it (faults.Usage index kind) is = inr (inr (inl (refl, is)))
-fault_cause old new caller words it faults.NotYet is = inr (inr (inl (refl, is)))
 fault_cause old new caller words it faults.NoMemory is = inl refl
 fault_cause old new caller words it _ is = absurd is
 
@@ -84,30 +83,27 @@ pub served_works : (words : List (List ℕ)) (served : Option Served) (old new :
 served_works words served old new same end is works = subst (λ (s : Option Served). Works s old new same end) (sym is) works
 
 -- the same of a job, where it is known which it is
-pub job_cause : (old new : Faults) (job : Job) (served : Served) (it : Outside) (end : Option Fault) → served_of job ≡ Some served → HasCause old new (steps_behind (Some served) it) end
-    → HasCause old new (steps_behind (served_of job) it) end
-job_cause old new job served it end is cause = subst (λ (s : Option Served). HasCause old new (steps_behind s it) end) (sym is) cause
+pub job_cause : (old new : Faults) (job : Job) (served : Served) (it : Outside) (end : Option Fault) → served_of job ≡ served → HasCause old new (steps_behind (Some served) it) end
+    → HasCause old new (steps_behind (Some (served_of job)) it) end
+job_cause old new job served it end is cause = subst (λ (s : Served). HasCause old new (steps_behind (Some s) it) end) (sym is) cause
 
-pub job_works : (job : Job) (served : Served) (old new : Outside) (same : Same) (end : End) → served_of job ≡ Some served → Works (Some served) old new same end → Works (served_of job) old new same end
-job_works job served old new same end is works = subst (λ (s : Option Served). Works s old new same end) (sym is) works
+pub job_works : (job : Job) (served : Served) (old new : Outside) (same : Same) (end : End) → served_of job ≡ served → Works (Some served) old new same end → Works (Some (served_of job)) old new same end
+job_works job served old new same end is works = subst (λ (s : Served). Works (Some s) old new same end) (sym is) works
 
 -- the words end a job before all its work
 line_ends : (caller : Caller) (words : List (List ℕ)) (fault : Fault) (P : Type 0) → IsFaultOfLine caller words fault → IsWorkDone (Some fault) → P
 line_ends caller words (faults.Usage index kind) P is done = absurd done
-line_ends caller words faults.NotYet P is done = absurd done
 line_ends caller words faults.NoMemory P is done = absurd done
 line_ends caller words _ P is done = absurd is
 
 -- an end with a fault that a line may have before its job
 abbrev pub IsOfLine : Option Fault → Type 0
 IsOfLine (Some (faults.Usage index kind)) = Unit {0}
-IsOfLine (Some faults.NotYet) = Unit {0}
 IsOfLine (Some faults.NoMemory) = Unit {0}
 IsOfLine _ = ⊥
 
 line_early : (caller : Caller) (words : List (List ℕ)) (fault : Fault) → IsFaultOfLine caller words fault → IsOfLine (Some fault)
 line_early caller words (faults.Usage index kind) is = tt
-line_early caller words faults.NotYet is = tt
 line_early caller words faults.NoMemory is = tt
 line_early caller words _ is = absurd is
 
@@ -115,21 +111,18 @@ line_early caller words _ is = absurd is
 before_phases : (end : Option Fault) → IsOfLine end → IsBeforePhases end
 before_phases None is = absurd is
 before_phases (Some (faults.Usage index kind)) is = tt
-before_phases (Some faults.NotYet) is = tt
 before_phases (Some faults.NoMemory) is = tt
 before_phases (Some _) is = absurd is
 
 before_layer : (file : FileState) (end : Option Fault) → IsOfLine end → IsBeforePhase file file end
 before_layer file None is = absurd is
 before_layer file (Some (faults.Usage index kind)) is = tt
-before_layer file (Some faults.NotYet) is = tt
 before_layer file (Some faults.NoMemory) is = tt
 before_layer file (Some _) is = absurd is
 
 before_join : (file : FileState) (end : Option Fault) → IsOfLine end → IsBeforeJoin file file end
 before_join file None is = absurd is
 before_join file (Some (faults.Usage index kind)) is = tt
-before_join file (Some faults.NotYet) is = tt
 before_join file (Some faults.NoMemory) is = tt
 before_join file (Some _) is = absurd is
 
@@ -223,20 +216,14 @@ save_limits shape stop run modes.Sliced turns serial relay is limits = subst (λ
 save_limits shape stop run modes.Threads turns serial relay is limits = absurd is
 
 pub served_save : (shape : ShapeData) (stop run : ℕ) (mode : Mode) (turns : List TurnOf) (serial : List ℕ) (relay : ℕ) → IsOnOneThread (jobs.Save shape stop run mode turns serial relay)
-    → served_of (jobs.Save shape stop run mode turns serial relay) ≡ Some (Save shape serial (record { stop = stop; run = run; way = Sliced turns }))
+    → served_of (jobs.Save shape stop run mode turns serial relay) ≡ Save shape serial (record { stop = stop; run = run; way = Sliced turns })
 served_save shape stop run modes.Sliced turns serial relay is = refl
 served_save shape stop run modes.Threads turns serial relay is = absurd is
 
--- the same of one on threads
-pub threads_limits : (shape : ShapeData) (stop run : ℕ) (turns : List TurnOf) (serial : List ℕ) (relay : ℕ) → is_some (served_of (jobs.Save shape stop run modes.Threads turns serial relay)) ≡ true
-    → IsSave shape stop run modes.Threads turns serial relay → IsSave shape stop run modes.Threads [] serial 0
-threads_limits shape stop run turns serial zero is limits = subst (λ l. IsSave shape stop run modes.Threads l serial 0) (limits.turns_unused refl) limits
-threads_limits shape stop run turns serial (suc relay) is limits = cc is
-
-pub served_on_threads : (shape : ShapeData) (stop run : ℕ) (turns : List TurnOf) (serial : List ℕ) (relay : ℕ) → is_some (served_of (jobs.Save shape stop run modes.Threads turns serial relay)) ≡ true
-    → served_of (jobs.Save shape stop run modes.Threads turns serial relay) ≡ Some (Save shape serial (record { stop = stop; run = run; way = OnThreads }))
-served_on_threads shape stop run turns serial zero is = refl
-served_on_threads shape stop run turns serial (suc relay) is = cc is
+-- what they allow of one on threads
+pub threads_limits : (shape : ShapeData) (stop run : ℕ) (turns : List TurnOf) (serial : List ℕ) (relay : ℕ) → IsSave shape stop run modes.Threads turns serial relay
+    → IsSave shape stop run modes.Threads [] serial relay
+threads_limits shape stop run turns serial relay limits = subst (λ l. IsSave shape stop run modes.Threads l serial relay) (limits.turns_unused refl) limits
 
 -- how it ended, told of the outside
 save_failed : (shape : ShapeData) (serial : List ℕ) (phases : SavePhases) (old new : Outside) (same_output silent : Type 0) (fault : Fault) (end : End)

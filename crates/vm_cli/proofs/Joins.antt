@@ -113,7 +113,6 @@ parts_words old new end fault is of usage = by_fault fault of (subst IsUsage is 
   where
     by_fault : (f : Fault) → IsOfParts old new f → IsUsage (Some f) → ⊥
     by_fault (faults.Usage index kind) of usage = of
-    by_fault faults.NotYet of usage = of
     by_fault _ of usage = usage
 
 pub parts_some : (old new : FileState) (end : Option Fault) (fault : Fault) (P : Type 0) → end ≡ Some fault → IsOfParts old new fault → IsNotEmpty end → P
@@ -174,8 +173,6 @@ unsaved_words m same old new end fault is unsaved usage = by_fault fault unsaved
     by_fault : (f : Fault) → IsUnsaved m same old new f → IsUsage (Some f) → ⊥
     by_fault (faults.Usage index kind) (inl none) usage = none
     by_fault (faults.Usage index kind) (inr fails) usage = cc fails.fault
-    by_fault faults.NotYet (inl none) usage = none
-    by_fault faults.NotYet (inr fails) usage = cc fails.fault
     by_fault _ unsaved usage = usage
 
 pub unsaved_full : (m : MachineData) (same : Type 0) (old new : FileState) (end : Option Fault) (fault : Fault) → end ≡ Some fault → IsUnsaved m same old new fault → IsNotEmpty end → Leaves old new

@@ -27,7 +27,6 @@ image_early _ of = absurd of
 
 image_words : (fault : Fault) → IsOfImage fault → IsUsage (Some fault) → ⊥
 image_words (faults.Usage index kind) of usage = of
-image_words faults.NotYet of usage = of
 image_words _ of usage = usage
 
 image_some : (fault : Fault) (P : Type 0) → IsOfImage fault → IsNotEmpty (Some fault) → P

@@ -2,11 +2,10 @@
 use Rattle.std.proofs.Common.{◌≡◌, arith}
 use Rattle.vm_cli.specs.Answer.{fault_status}
 use Rattle.vm_cli.specs.declared.answer.Fault.{Fault}
-use Rattle.vm_cli.specs.declared.answer.Fault.TheVariants.{Usage, NotYet, ImageRefused, FileFault, ImageFault, NoMemory, NotEmpty, ConsoleFault, AsmRefused, FileRefused, PeekRefused, LayerRefused, OrderRefused}
+use Rattle.vm_cli.specs.declared.answer.Fault.TheVariants.{Usage, ImageRefused, FileFault, ImageFault, NoMemory, NotEmpty, ConsoleFault, AsmRefused, FileRefused, PeekRefused, LayerRefused, OrderRefused}
 
 pub no_success : (fault : Fault) → fault_status fault ≡ 0 → ⊥
 no_success (Usage index kind) is = omega arith
-no_success NotYet is = omega arith
 no_success (ImageRefused refusal) is = omega arith
 no_success FileFault is = omega arith
 no_success ImageFault is = omega arith

@@ -24,7 +24,6 @@ use Rattle.vm_cli.specs.declared.write_fault.WriteFault.TheVariants as write_fau
 -- the exit status of a fault
 abbrev pub fault_status : Fault → ℕ
 fault_status (faults.Usage index kind) = 1
-fault_status faults.NotYet = 1
 fault_status (faults.ImageRefused refusal) = 2
 fault_status (faults.FileRefused refusal) = 3
 fault_status faults.FileFault = 4

@@ -132,7 +132,6 @@ order_words (order.Halted place) = codes "fault 12 order halted " ++ decimal pla
 -- the words of a fault's line
 abbrev pub fault_words : Fault → List ℕ
 fault_words (faults.Usage index kind) = codes "fault 1 usage " ++ number_then index (usage_text kind)
-fault_words faults.NotYet = codes "fault 1 not-yet"
 fault_words (faults.ImageRefused Empty) = codes "fault 2 image empty"
 fault_words (faults.ImageRefused (TooLong len)) = codes "fault 2 image too-long " ++ decimal len
 fault_words (faults.ImageRefused (Elf kind at)) = codes "fault 2 image elf " ++ then_number (elf_text kind) at

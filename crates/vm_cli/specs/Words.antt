@@ -1,5 +1,5 @@
 -- Which lines are served, and the fault of every other (this project's own, docs/COMMAND_LINE.md).
-use Rattle.std.specs.Prelude.{◌≡◌, ℕ, zero, ◌+◌, true, false, nat_eq, List, [], ◌∷◌, codes, Option, Some, None, Result, Ok, Err, if◌then◌else◌}
+use Rattle.std.specs.Prelude.{◌≡◌, ℕ, ◌+◌, true, false, nat_eq, List, [], ◌∷◌, codes, Option, Some, None, Result, Ok, Err, if◌then◌else◌}
 use Rattle.std.specs.List.{starts_with}
 use Rattle.vm_words.specs.Job.{job}
 use Rattle.vm_words.specs.declared.fault.UsageKind.{UsageKind}
@@ -8,35 +8,34 @@ use Rattle.vm_words.specs.declared.job.Job.{Job}
 use Rattle.vm_words.specs.declared.job.Job.TheVariants as jobs
 use Rattle.vm_words.specs.declared.job.Mode.TheVariants as modes
 use Rattle.vm_cli.specs.declared.answer.Fault.{Fault}
-use Rattle.vm_cli.specs.declared.answer.Fault.TheVariants.{Usage, NotYet, NoMemory}
+use Rattle.vm_cli.specs.declared.answer.Fault.TheVariants.{Usage, NoMemory}
 use Rattle.vm_cli.specs.declared.words.Caller.{Caller}
 use Rattle.vm_cli.specs.declared.words.Caller.TheVariants.{Still, Threaded}
 use Rattle.vm_cli.specs.Served.{Assembly, CheckFile, Join, Layer, LazyRestore, OnThreads, Peek, Record, Replay, Restore, Save, Served, Sliced, Workload}
 
 -- ---- Which jobs are served
 
--- which job of those that are served it is; a save with a relay isn't yet
-abbrev pub served_of : Job → Option Served
-served_of jobs.Assemble = Some Assembly
-served_of jobs.CheckFile = Some CheckFile
-served_of (jobs.Restore n false) = Some (Restore n)
-served_of (jobs.Restore n true) = Some (LazyRestore n)
-served_of (jobs.Peek shape at len) = Some (Peek shape at len)
-served_of (jobs.Save shape stop run modes.Sliced turns input relay) = Some (Save shape input (record { stop = stop; run = run; way = Sliced turns }))
-served_of (jobs.Save shape stop run modes.Threads turns input zero) = Some (Save shape input (record { stop = stop; run = run; way = OnThreads }))
-served_of (jobs.Workload seed) = Some (Workload seed)
-served_of (jobs.Layer run) = Some (Layer run)
-served_of jobs.Join = Some Join
-served_of (jobs.Record shape run input) = Some (Record shape run input)
-served_of (jobs.Replay shape input) = Some (Replay shape input)
-served_of job = None
+-- which job of those that are served it is; a relay changes nothing that is said of a save
+abbrev pub served_of : Job → Served
+served_of jobs.Assemble = Assembly
+served_of jobs.CheckFile = CheckFile
+served_of (jobs.Restore n false) = Restore n
+served_of (jobs.Restore n true) = LazyRestore n
+served_of (jobs.Peek shape at len) = Peek shape at len
+served_of (jobs.Save shape stop run modes.Sliced turns input relay) = Save shape input (record { stop = stop; run = run; way = Sliced turns })
+served_of (jobs.Save shape stop run modes.Threads turns input relay) = Save shape input (record { stop = stop; run = run; way = OnThreads })
+served_of (jobs.Workload seed) = Workload seed
+served_of (jobs.Layer run) = Layer run
+served_of jobs.Join = Join
+served_of (jobs.Record shape run input) = Record shape run input
+served_of (jobs.Replay shape input) = Replay shape input
 
 -- the same, of what words give
 abbrev pub served_in : Result Job (ℕ × UsageKind) → Option Served
 served_in (Err wrong) = None
-served_in (Ok job) = served_of job
+served_in (Ok job) = Some (served_of job)
 
--- the job of the words, where it is served
+-- the job of the words, where they are a line
 unfoldable pub served_line : List (List ℕ) → Option Served
 served_line words = served_in (job words)
 
@@ -64,16 +63,15 @@ IsOnOneThread (jobs.Save shape stop run modes.Threads turns input relay) = ⊥
 IsOnOneThread (jobs.Record shape run input) = ⊥
 IsOnOneThread job = Unit {0}
 
--- the fault of a line that is not served
-abbrev pub fault_of_job : Option ℕ → Option Served → Option Fault
-fault_of_job (Some index) served = Some (Usage index NeedsThreads)
-fault_of_job None None = Some NotYet
-fault_of_job None (Some served) = None
+-- the fault of a line of which this word is forbidden, if one is
+abbrev pub fault_of_job : Option ℕ → Option Fault
+fault_of_job (Some index) = Some (Usage index NeedsThreads)
+fault_of_job None = None
 
 -- why a line isn't served, if it isn't
 abbrev pub fault_of_line : Caller → List (List ℕ) → Result Job (ℕ × UsageKind) → Option Fault
 fault_of_line caller words (Err wrong) = Some (Usage wrong.0 wrong.1)
-fault_of_line caller words (Ok job) = fault_of_job (forbidden_word caller words job) (served_of job)
+fault_of_line caller words (Ok job) = fault_of_job (forbidden_word caller words job)
 
 -- the same, of words
 unfoldable pub line_fault : Caller → List (List ℕ) → Option Fault
@@ -82,6 +80,5 @@ line_fault caller words = fault_of_line caller words (job words)
 -- the fault is that of the words, or want of memory
 abbrev pub IsFaultOfLine : Caller → List (List ℕ) → Fault → Type 0
 IsFaultOfLine caller words (Usage index kind) = line_fault caller words ≡ Some (Usage index kind)
-IsFaultOfLine caller words NotYet = line_fault caller words ≡ Some NotYet
 IsFaultOfLine caller words NoMemory = Unit {0}
 IsFaultOfLine caller words _ = ⊥

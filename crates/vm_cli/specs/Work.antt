@@ -38,13 +38,11 @@ IsWorkDone _ = ⊥
 -- it ended at its words
 abbrev pub IsUsage : Option Fault → Type 0
 IsUsage (Some (faults.Usage index kind)) = Unit {0}
-IsUsage (Some faults.NotYet) = Unit {0}
 IsUsage _ = ⊥
 
 -- it ended before its first call on the output
 abbrev pub IsBeforeOutput : Option Fault → Type 0
 IsBeforeOutput (Some (faults.Usage index kind)) = Unit {0}
-IsBeforeOutput (Some faults.NotYet) = Unit {0}
 IsBeforeOutput (Some (faults.ImageRefused refusal)) = Unit {0}
 IsBeforeOutput (Some (faults.FileRefused refusal)) = Unit {0}
 IsBeforeOutput (Some (faults.AsmRefused line kind)) = Unit {0}

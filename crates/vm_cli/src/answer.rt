@@ -20,8 +20,6 @@ use vm_words::{UsageKind, WordsFault};
 pub enum Fault {
     /// The words are no line: the first that fails, counted from 0, and how.
     Usage { index: u32, kind: UsageKind },
-    /// The words are a line that isn't served yet.
-    NotYet,
     ImageRefused(ImageRefusal),
     /// The file to be loaded is a layout of no machine.
     FileRefused(Refusal),
@@ -50,7 +48,7 @@ impl Fault {
         ensures { result ≡ fault_status self }
     {
         match self {
-            Fault::Usage { .. } | Fault::NotYet => 1,
+            Fault::Usage { .. } => 1,
             Fault::ImageRefused(_) => 2,
             Fault::FileRefused(_) => 3,
             Fault::FileFault => 4,

@@ -32,7 +32,6 @@ pub(crate) fn fault_line(fault: Fault) -> [Part; 7]
         Fault::Usage { index, kind } => {
             number_and_word("fault 1 usage ", u64::from(index), usage_text(kind))
         }
-        Fault::NotYet => text("fault 1 not-yet"),
         Fault::ImageRefused(ImageRefusal::Empty) => text("fault 2 image empty"),
         Fault::ImageRefused(ImageRefusal::TooLong(len)) => number("fault 2 image too-long ", len),
         Fault::ImageRefused(ImageRefusal::Elf { kind, at }) => {

@@ -1,4 +1,4 @@
-ghost use Rattle.std.specs.Prelude.{◌≡◌, [], is_some, map, string_bytes, true};
+ghost use Rattle.std.specs.Prelude.{◌≡◌, [], Some, map, string_bytes};
 ghost use Rattle.vm_cli.specs.Answer.{fault_in};
 ghost use Rattle.vm_cli.specs.Outside.{faults_of, outside};
 ghost use Rattle.vm_cli.specs.Steps.{HasCause};
@@ -55,7 +55,8 @@ pub(crate) fn run_line<S: Source, M: Medium, K: Sink>(
     run_job(alloc, &job, image, input, output, console, orders)
 }
 
-/// The same with threads: a save that asks for them runs on them, and every other line on one thread.
+/// The same with threads: a save that asks for them and a record run on them, and every other line on one thread. The gate
+/// is told of the second phase of the save, and of the phase of the record.
 pub(crate) fn run_line_on_threads<
     R: Threads + Wait + Sync,
     S: Source,
@@ -93,10 +94,11 @@ pub(crate) fn run_line_on_threads<
             run,
             mode,
             input: serial,
+            relay,
             ..
         } => match mode {
             Mode::Threads => save_image_on_threads(
-                rt, alloc, shape, serial, *stop, *run, image, output, console, gate, orders,
+                rt, alloc, shape, serial, *stop, *run, *relay, image, output, console, gate, orders,
             ),
             Mode::Sliced => run_job(alloc, &job, image, input, output, console, orders),
         },
@@ -121,7 +123,6 @@ fn run_job<S: Source, M: Medium, K: Sink>(
     console: &mut K,
     orders: &mut Orders,
 ) -> Result<(), Fault>
-    requires served { is_some (served_of job.now) ≡ true }
     requires one_thread { IsOnOneThread job.now }
     requires limits { IsWithinLimits job.now }
     requires first { orders.old.first.members ≡ [] }
@@ -129,8 +130,8 @@ fn run_job<S: Source, M: Medium, K: Sink>(
     ensures cause { HasCause
         (faults_of (outside S.Source M.Readable K.Sink image.old input.old output.old console.old))
         (faults_of (outside S.Source M.Readable K.Sink image.new input.new output.new console.new))
-        (steps_behind (served_of job.now) (outside S.Source M.Readable K.Sink image.old input.old output.old console.old)) (fault_in result) }
-    ensures works { Works (served_of job.now)
+        (steps_behind (Some (served_of job.now)) (outside S.Source M.Readable K.Sink image.old input.old output.old console.old)) (fault_in result) }
+    ensures works { Works (Some (served_of job.now))
         (outside S.Source M.Readable K.Sink image.old input.old output.old console.old)
         (outside S.Source M.Readable K.Sink image.new input.new output.new console.new)
         (record { image = image.new ≡ image.old; input = input.new ≡ input.old; output = output.new ≡ output.old; console = console.new ≡ console.old })

@@ -1,5 +1,5 @@
-// A save whose two phases run on threads, one for each vCPU and in the second one for the saver.
-ghost use Rattle.std.specs.Prelude.{◌≡◌, ◌⊎◌, ◌≤◌, ◌+◌, ℕ, List, [], None, IfErr, IfOk};
+// A save whose two phases run on threads: one for each vCPU, and in the second one for the saver, or two over a relay.
+ghost use Rattle.std.specs.Prelude.{◌≡◌, ◌⊎◌, ◌<◌, ◌≤◌, ◌+◌, ℕ, List, [], None, IfErr, IfOk};
 ghost use Rattle.bg_saver.specs.declared.save_end.SaveEnd.TheVariants.{Complete as complete};
 ghost use Rattle.bg_saver.specs.Save.{HasJustBegun};
 ghost use Rattle.flat_machine.specs.Laws.{HasRoom};
@@ -21,6 +21,7 @@ ghost use Rattle.vm_cli.specs.Served.{OnThreads as on_threads};
 ghost use Rattle.vm_cli.specs.Steps.{Faults, HasCause};
 ghost use Rattle.vm_cli.specs.Work.{IsNotConsole, IsNotEmpty, IsUsage, IsWorkDone};
 ghost use Rattle.vm_cli.specs.Write.{KeepsFull};
+ghost use Rattle.write_pipe.specs.declared.relay_pages.TheConstants.{MAX_ROOM};
 ghost use Rattle.vm_cli.specs.declared.answer.Fault.{Fault as A_fault};
 ghost use Rattle.vm_cli.specs.declared.answer.Fault.TheVariants.{NoMemory as out_of_memory};
 
@@ -41,9 +42,11 @@ use std::sync::Wait;
 use std::thread::Threads;
 use vm_stop::Stopped;
 use vm_words::Input;
+use write_pipe::run_relayed;
 
 /// Boots the machine of an image, runs its first phase, saves it into the output while it runs its second, and reports
-/// it on the console, each phase on threads. The gate is told of the second.
+/// it on the console, each phase on threads. The gate is told of the second. `relay` is the number of pages that fit between
+/// the worker that copies them and the one that writes them; where it is 0, one worker does both.
 pub(crate) fn save_image_on_threads<
     R: Threads + Wait + Sync,
     S: Source,
@@ -57,13 +60,14 @@ pub(crate) fn save_image_on_threads<
     serial: &Input,
     stop: u32,
     run: u32,
+    relay: u32,
     image: &mut S,
     output: &mut M,
     console: &mut K,
     gate: &G,
     orders: &mut Orders,
 ) -> Result<(), Fault>
-    requires limits { IsSave shape.now stop run in_threads [] serial.now 0 }
+    requires limits { IsSave shape.now stop run in_threads [] serial.now relay }
     requires first { orders.old.first.members ≡ [] }
     requires second { orders.old.second.members ≡ [] }
     ensures cause { (old : Faults) (new : Faults)
@@ -84,7 +88,9 @@ pub(crate) fn save_image_on_threads<
     ensures count { K.faults console.old ≤ K.faults console.new }
 {
     let machine = boot_image(alloc, shape, serial.bytes(), image)?;
-    save_machine(rt, alloc, machine, stop, run, output, console, gate, orders)
+    save_machine(
+        rt, alloc, machine, stop, run, relay, output, console, gate, orders,
+    )
 }
 
 // Runs the first phase of a booted machine, saves it into the output while it runs its second, and reports it on the console.
@@ -94,6 +100,7 @@ fn save_machine<R: Threads + Wait + Sync, M: Medium + Send, K: Sink, G: Gate>(
     machine: Machine,
     stop: u32,
     run: u32,
+    relay: u32,
     output: &mut M,
     console: &mut K,
     gate: &G,
@@ -103,6 +110,7 @@ fn save_machine<R: Threads + Wait + Sync, M: Medium + Send, K: Sink, G: Gate>(
     requires room { HasRoom machine stop }
     requires stop { stop ≤ MAX_PHASE }
     requires run { run ≤ MAX_PHASE }
+    requires relay { relay ≤ MAX_ROOM }
     requires first { orders.old.first.members ≡ [] }
     requires second { orders.old.second.members ≡ [] }
     ensures cause { (old : Faults) (new : Faults)
@@ -121,7 +129,7 @@ fn save_machine<R: Threads + Wait + Sync, M: Medium + Send, K: Sink, G: Gate>(
 {
     let (machine, first) = reach_instant::<R, M, NoGate>(rt, alloc, machine, stop, &NoGate)?;
     orders.first = first;
-    let out = save_instant(rt, alloc, machine, run, output, gate)?;
+    let out = save_instant(rt, alloc, machine, run, relay, output, gate)?;
     end_save(out, console, orders)
 }
 
@@ -155,11 +163,13 @@ fn save_instant<R: Threads + Wait + Sync, M: Medium + Send, G: Gate>(
     alloc: Global,
     machine: Machine,
     run: u32,
+    relay: u32,
     output: &mut M,
     gate: &G,
 ) -> Result<PhaseOut, Fault>
     requires rest { Rest machine }
     requires run { run ≤ MAX_PHASE }
+    requires relay { relay ≤ MAX_ROOM }
     ensures phase { IfOk result (RunsBeside machine run) }
     ensures ended { IfOk result (λ out. (out.saved ≡ None) → ⊥) }
     ensures saved { IfOk result (λ out. LeavesSaved machine out.saved (file_state M.Readable output.old) (file_state M.Readable output.new)) }
@@ -168,11 +178,37 @@ fn save_instant<R: Threads + Wait + Sync, M: Medium + Send, G: Gate>(
     ensures kept { KeepsFull (file_state M.Readable output.old) (file_state M.Readable output.new) }
 {
     let (stopped, saver) = begin_save(alloc, machine, output)?;
-    run_saved(rt, alloc, stopped, saver, run, output, gate)
+    run_saved(rt, alloc, stopped, saver, run, relay, output, gate)
 }
 
-// Runs the second phase of a machine whose save has just begun.
+// Runs the second phase of a machine whose save has just begun, over a relay where it holds a page.
 fn run_saved<R: Threads + Wait + Sync, M: Medium + Send, G: Gate>(
+    rt: &R,
+    alloc: Global,
+    stopped: Stopped,
+    saver: Saver,
+    run: u32,
+    relay: u32,
+    output: &mut M,
+    gate: &G,
+) -> Result<PhaseOut, Fault>
+    requires rest { Rest stopped }
+    requires run { run ≤ MAX_PHASE }
+    requires relay { relay ≤ MAX_ROOM }
+    requires begun { HasJustBegun saver stopped (file_state M.Readable output.old) }
+    ensures phase { IfOk result (RunsBeside stopped run) }
+    ensures ended { IfOk result (λ out. (out.saved ≡ None) → ⊥) }
+    ensures file { IfOk result (λ out. LeavesFile stopped out.saved (file_state M.Readable output.old) (file_state M.Readable output.new)) }
+    ensures no_memory { IfErr result (λ fault. (fault ≡ out_of_memory) × (output.new ≡ output.old)) }
+{
+    match relay {
+        0 => run_without_relay(rt, alloc, stopped, saver, run, output, gate),
+        room => run_with_relay(rt, alloc, stopped, saver, run, room, output, gate),
+    }
+}
+
+// The second phase, beside which one worker copies each page and writes it.
+fn run_without_relay<R: Threads + Wait + Sync, M: Medium + Send, G: Gate>(
     rt: &R,
     alloc: Global,
     stopped: Stopped,
@@ -203,6 +239,42 @@ fn run_saved<R: Threads + Wait + Sync, M: Medium + Send, G: Gate>(
     else {
         unreachable!()
     };
+    match phase {
+        Ok(out) => Ok(out),
+        Err(_) => Err(Fault::NoMemory),
+    }
+}
+
+// The second phase, beside which one worker copies the pages and another writes them, over a relay that has room for so many.
+fn run_with_relay<R: Threads + Wait + Sync, M: Medium + Send, G: Gate>(
+    rt: &R,
+    alloc: Global,
+    stopped: Stopped,
+    saver: Saver,
+    run: u32,
+    room: u32,
+    output: &mut M,
+    gate: &G,
+) -> Result<PhaseOut, Fault>
+    requires rest { Rest stopped }
+    requires run { run ≤ MAX_PHASE }
+    requires some { 0 < room }
+    requires room { room ≤ MAX_ROOM }
+    requires begun { HasJustBegun saver stopped (file_state M.Readable output.old) }
+    ensures phase { IfOk result (RunsBeside stopped run) }
+    ensures ended { IfOk result (λ out. (out.saved ≡ None) → ⊥) }
+    ensures file { IfOk result (λ out. LeavesFile stopped out.saved (file_state M.Readable output.old) (file_state M.Readable output.new)) }
+    ensures no_memory { IfErr result (λ fault. (fault ≡ out_of_memory) × (output.new ≡ output.old)) }
+{
+    let mut job = SaveJob {
+        saver,
+        medium: &mut *output,
+    };
+    let phase = run_relayed(rt, alloc, stopped.into_machine(), run, &mut job, room, gate);
+    let SaveJob {
+        saver: _saver,
+        medium: _medium,
+    } = job;
     match phase {
         Ok(out) => Ok(out),
         Err(_) => Err(Fault::NoMemory),

@@ -45,7 +45,8 @@ pub fn rvsnap_still<S: Source, M: Medium, K: Sink>(
 
 /// Runs the job of a line of words. It may wait for the threads that it starts.
 ///
-/// The gate is told of the second phase of a save on threads; every other line is done as by `rvsnap_still`.
+/// The gate is told of the second phase of a save on threads and of the phase of a record; every other line is done as by
+/// `rvsnap_still`.
 pub fn rvsnap<R: Threads + Wait + Sync, S: Source, M: Medium + Send, K: Sink, G: Gate>(
     rt: &R,
     alloc: Global,

@@ -1,4 +1,4 @@
-ghost use Rattle.std.specs.Prelude.{◌≡◌, ◌+◌, ◌<◌, ◌^◌, None, is_some, length, map, string_bytes, true, IfOk, IfErr};
+ghost use Rattle.std.specs.Prelude.{◌≡◌, ◌+◌, ◌<◌, ◌^◌, None, Some, length, map, string_bytes, IfOk, IfErr};
 ghost use Rattle.vm_cli.specs.Words.{forbidden_word, line_fault, mode_word, served_line, served_of, threads_word, IsFaultOfLine};
 ghost use Rattle.vm_words.specs.Limits.{IsWithinLimits};
 
@@ -15,11 +15,10 @@ pub(crate) enum Caller {
     Threaded,
 }
 
-/// The job of the words, where it is served.
+/// The job of the words, where the caller may do it.
 #[tactic(auto, unfolding(crate::specs::Words::line_fault, crate::specs::Words::served_line))]
 pub(crate) fn serve_line(alloc: Global, caller: Caller, words: &[String]) -> Result<Job, Fault>
-    ensures ok { IfOk result (λ job. served_line (map string_bytes words.now) ≡ served_of job) }
-    ensures served { IfOk result (λ job. is_some (served_of job) ≡ true) }
+    ensures ok { IfOk result (λ job. served_line (map string_bytes words.now) ≡ Some (served_of job)) }
     ensures limits { IfOk result IsWithinLimits }
     ensures no_fault { IfOk result (λ job. line_fault caller (map string_bytes words.now) ≡ None) }
     ensures allowed { IfOk result (λ job. forbidden_word caller (map string_bytes words.now) job ≡ None) }
@@ -31,9 +30,6 @@ pub(crate) fn serve_line(alloc: Global, caller: Caller, words: &[String]) -> Res
             index,
             kind: UsageKind::NeedsThreads,
         });
-    }
-    if !is_served(&job) {
-        return Err(Fault::NotYet);
     }
     Ok(job)
 }
@@ -73,15 +69,5 @@ fn mode_word(before: u32, words: &[String]) -> u32
         Some((word, _)) if word.as_str().starts_with("mode=") => before,
         Some((_, rest)) => mode_word(before + 1, rest),
         None => 0,
-    }
-}
-
-// Whether the job is served; a save with a relay isn't yet.
-fn is_served(job: &Job) -> bool
-    ensures { result ≡ is_some (served_of job.now) }
-{
-    match job {
-        Job::Save { mode, relay, .. } => *mode == Mode::Sliced || *relay == 0,
-        _ => true,
     }
 }

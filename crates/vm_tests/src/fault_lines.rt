@@ -1,5 +1,4 @@
 use crate::guest::{SAVE, elf_of_the_guest};
-use crate::jobs::difference_in_threads;
 use image_file::ElfKind;
 use image_file::ImageRefusal::Elf;
 use snapshot_by_hand::GUEST;
@@ -50,30 +49,6 @@ fn every_other_line_is_answered_before_the_image(rt: HostRuntime) -> Result<(), 
         };
         assert_eq!(rt; difference(rt.alloc(), &line)?, None, "{printed}");
     }
-    Ok(())
-}
-
-/// A line that needs threads, and that isn't served yet.
-static WITH_RELAY: [&str; 6] = [
-    "save",
-    "image=a",
-    "out=b",
-    "pages=1",
-    "mode=threads",
-    "relay=1",
-];
-
-#[test]
-fn the_call_with_threads_refuses_no_line_for_its_threads(rt: HostRuntime) -> Result<(), Fail> {
-    let line = Line {
-        words: &WITH_RELAY,
-        image: &GUEST,
-        status: 1,
-        fault: Some(Fault::NotYet),
-        printed: "fault 1 not-yet\n",
-        ..READER
-    };
-    assert_eq!(rt; difference_in_threads(&rt, rt.alloc(), &line)?, None);
     Ok(())
 }
 

@@ -79,7 +79,6 @@ pub record Joins (prints : Printing) (old new : Outside) (end : End) : Type 0 wh
 -- the faults that may come before base and layer are joined: one of the words, of the layer, of the input, or want of memory
 abbrev pub IsBeforeJoin : FileState → FileState → Option Fault → Type 0
 IsBeforeJoin old new (Some (faults.Usage index kind)) = Unit {0}
-IsBeforeJoin old new (Some faults.NotYet) = Unit {0}
 IsBeforeJoin old new (Some (faults.ImageRefused refusal)) = Unit {0}
 IsBeforeJoin old new (Some faults.ImageFault) = Unit {0}
 IsBeforeJoin old new (Some (faults.FileRefused refusal)) = Unit {0}

@@ -82,7 +82,6 @@ pub record Layers (prints : Printing) (n : ℕ) (old new : Outside) (end : End) 
 -- the faults that may come before the phase has ended: one of the words, of the input, or want of memory
 abbrev pub IsBeforePhase : FileState → FileState → Option Fault → Type 0
 IsBeforePhase old new (Some (faults.Usage index kind)) = Unit {0}
-IsBeforePhase old new (Some faults.NotYet) = Unit {0}
 IsBeforePhase old new (Some (faults.FileRefused refusal)) = Unit {0}
 IsBeforePhase old new (Some faults.FileFault) = HasRisen old.faults new.faults
 IsBeforePhase old new (Some faults.NoMemory) = Unit {0}

@@ -144,7 +144,6 @@ pub record EndsAtInstant (b : MachineData) (phases : SavePhases) (same_output : 
 -- the faults that may come before the first phase has ended
 abbrev pub IsBeforePhases : Option Fault → Type 0
 IsBeforePhases (Some (faults.Usage index kind)) = Unit {0}
-IsBeforePhases (Some faults.NotYet) = Unit {0}
 IsBeforePhases (Some (faults.ImageRefused refusal)) = Unit {0}
 IsBeforePhases (Some faults.ImageFault) = Unit {0}
 IsBeforePhases (Some faults.NoMemory) = Unit {0}

@@ -1,6 +1,5 @@
 -- A line that is served leaves cause and work to its job; where it isn't, nothing was done.
-use Rattle.std.proofs.Common.{◌≡◌, ℕ, List, ap, inl, refl, subst, ◌∙◌}
-use Rattle.std.specs.Prelude.{true, is_some, Some}
+use Rattle.std.proofs.Common.{◌≡◌, ℕ, List, ap, inl, refl, ◌∙◌}
 use Rattle.ram_block.specs.Shape.{ShapeData}
 use Rattle.vm_words.specs.declared.job.Job.{Job}
 use Rattle.vm_words.specs.declared.job.Job.TheVariants as jobs
@@ -11,15 +10,14 @@ use Rattle.vm_cli.specs.Outside.{faults_of, outside}
 use Rattle.vm_cli.specs.Served.{OnThreads, Record, Save}
 use Rattle.vm_cli.specs.Words.{served_of}
 use Rattle.flat_machine.specs.Order.{OrderData}
-use Rattle.vm_cli.proofs.Jobs.{before_console, failed_with, job_cause, job_works, line_works, save_works, served_cause, served_on_threads, served_works, unwritten_crash}
+use Rattle.vm_cli.proofs.Jobs.{before_console, failed_with, job_cause, job_works, line_works, save_works, served_cause, served_works, unwritten_crash}
 use Rattle.vm_cli.proofs.job.run_line_on_threads.Goals as goal
 
--- a job that is served is this one, where it is a save on threads
+-- which job is served, where it is a save on threads
 is_save : (job : Job) (shape : ShapeData) (stop run : ℕ) (mode : Mode) (turns : List TurnOf) (serial : List ℕ) (relay : ℕ) → job ≡ jobs.Save shape stop run mode turns serial relay → mode ≡ modes.Threads
-    → is_some (served_of job) ≡ true → served_of job ≡ Some (Save shape serial (record { stop = stop; run = run; way = OnThreads }))
-is_save job shape stop run mode turns serial relay is threads served =
-    let on_threads : job ≡ jobs.Save shape stop run modes.Threads turns serial relay = is ∙ ap (λ m. jobs.Save shape stop run m turns serial relay) threads in
-    ap served_of on_threads ∙ served_on_threads shape stop run turns serial relay (subst (λ (j : Job). is_some (served_of j) ≡ true) on_threads served)
+    → served_of job ≡ Save shape serial (record { stop = stop; run = run; way = OnThreads })
+is_save job shape stop run mode turns serial relay is threads =
+    ap served_of (is ∙ ap (λ m. jobs.Save shape stop run m turns serial relay) threads)
 
 pub returns-in_err-job-clause-works : goal.returns-in_err-job-clause-works
 returns-in_err-job-clause-works g c =
@@ -29,7 +27,7 @@ returns-in_err-job-clause-works g c =
 pub returns-in-Threads-clause-cause : goal.returns-in-Threads-clause-cause
 returns-in-Threads-clause-cause g c =
     served_cause _ _ _ _ _ _ _ c.in_ok-job.ensures.no_fault c.in_ok-job.ensures.ok
-    (job_cause _ _ _ _ _ _ (is_save c.in_ok-job.job _ _ _ _ _ _ _ c.in-Save.is c.in-Threads.is c.in_ok-job.ensures.served)
+    (job_cause _ _ _ _ _ _ (is_save c.in_ok-job.job _ _ _ _ _ _ _ c.in-Save.is c.in-Threads.is)
     (c.save_image_on_threads.ensures.cause (faults_of (outside g.S.Source g.M.Readable g.K.Sink c.args.image.now c.args.input.now c.args.output.now c.args.console.now))
     (faults_of (outside g.S.Source g.M.Readable g.K.Sink c.save_image_on_threads.new.image c.args.input.now c.save_image_on_threads.new.output c.save_image_on_threads.new.console))))
 
@@ -37,7 +35,7 @@ pub returns-in-Threads-clause-works : goal.returns-in-Threads-clause-works
 returns-in-Threads-clause-works g c =
     let e = c.save_image_on_threads.ensures in
     served_works _ _ _ _ _ _ c.in_ok-job.ensures.ok
-    (job_works _ _ _ _ _ _ (is_save c.in_ok-job.job _ _ _ _ _ _ _ c.in-Save.is c.in-Threads.is c.in_ok-job.ensures.served)
+    (job_works _ _ _ _ _ _ (is_save c.in_ok-job.job _ _ _ _ _ _ _ c.in-Save.is c.in-Threads.is)
     (save_works _ _ _ _ _ _ _ refl e.done e.failed e.words_stand e.read e.not_empty e.kept e.count))
 
 pub returns-in-Record-clause-cause : goal.returns-in-Record-clause-cause
