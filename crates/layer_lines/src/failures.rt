@@ -1,7 +1,7 @@
 use crate::steps::{STORED, by_hand, join, make};
 use std::alloc::Global;
 use std::test::Fail;
-use test_lines::{Fails, Line, READER, answer, answer_difference, difference, difference_of};
+use test_lines::{Fails, Line, answer, answer_difference, difference, difference_of, is_checked};
 
 const FAULT: &str = "fault 4 file-fault\n";
 
@@ -87,23 +87,6 @@ static JOIN_CALLS: [(u64, u8, &str); 10] = [
     (9, 3, "fault 3 file magic 4544077\n"),
     (10, 0, "ok vcpus 1 blocks 1 pages 2\n"),
 ];
-
-/// Whether a check of a file has this status and this line.
-fn is_checked<'a>(
-    alloc: Global,
-    file: &'a [u8],
-    status: u8,
-    printed: &'a str,
-) -> Result<bool, Fail> {
-    let line = Line {
-        words: &["check", "in=c"],
-        input: file,
-        status,
-        printed,
-        ..READER
-    };
-    ends_so(alloc, &line)
-}
 
 /// Whether a line of `join` ends as it has to, and a check of the file that it leaves with this status and this line.
 fn leaves(alloc: Global, line: &Line, status: u8, printed: &'static str) -> Result<bool, Fail> {

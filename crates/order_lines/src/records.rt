@@ -1,11 +1,11 @@
 use crate::compare::{difference_on_threads, replay_difference};
-use crate::guests::{ADDS, COUNTS, HALTS, LISTENS, STORES};
+use crate::guests::{COUNTS, HALTS, LISTENS, STORES};
 use ram_block::NoGate;
 use std::alloc::Global;
 use std::sync::Wait;
 use std::test::Fail;
 use std::thread::Threads;
-use test_lines::{Fails, LINE, Line, answer_on_threads, difference};
+use test_lines::{ADDED, ADDS, Fails, LINE, Line, answer_on_threads, difference};
 
 const BOOTED: &str = "clock 0
 cpu 0 running pc 0000000080000000 steps 0
@@ -111,20 +111,6 @@ fn a_replay_prints_the_report_of_its_record(rt: HostRuntime) -> Result<(), Fail>
     }
     Ok(())
 }
-
-const ADDED: &str = "clock 179998
-cpu 0 running pc 0000000080000010 steps 60000
-x5 0000000080002000
-x7 0000000000003a97
-cpu 1 running pc 0000000080000010 steps 60000
-x5 0000000080003000
-x6 0000000000001000
-x7 0000000000003a97
-x10 0000000000000001
-serial 0 lost 0
-timer 0000000000000000
-ram pages 512 nonzero 3 sum 013a76b9ffd68e7a
-";
 
 #[rattlefmt::skip]
 const RECORD_ADDING: [&str; 6] = ["record", "image=a", "out=b", "vcpus=2", "blocks=2", "run=60000"];

@@ -1,5 +1,5 @@
 use crate::files::Outcome;
-use crate::line::{Line, answer};
+use crate::line::{Line, READER, answer};
 use crate::orders::is_order;
 use ram_block::NoMemory;
 use std::alloc::Global;
@@ -20,6 +20,23 @@ pub enum Differs {
 pub fn difference(alloc: Global, line: &Line) -> Result<Option<Differs>, NoMemory> {
     let done = answer(alloc, line)?;
     Ok(difference_of(&done, line))
+}
+
+/// Whether a check of a file has this status and this line.
+pub fn is_checked<'a>(
+    alloc: Global,
+    file: &'a [u8],
+    status: u8,
+    printed: &'a str,
+) -> Result<bool, NoMemory> {
+    let line = Line {
+        words: &["check", "in=a"],
+        input: file,
+        status,
+        printed,
+        ..READER
+    };
+    Ok(difference(alloc, &line)?.is_none())
 }
 
 /// In what an outcome differs from the one that a line wants, if in anything.

@@ -1,4 +1,3 @@
-use crate::counts::counts_behind;
 use ram_block::NoGate;
 use snapshot_by_hand::{GUEST, SMALLEST, file_of};
 use std::alloc::Global;
@@ -6,7 +5,8 @@ use std::sync::Wait;
 use std::test::Fail;
 use std::thread::Threads;
 use test_lines::{
-    Differs, Fails, LINE, Line, READER, answer_on_threads, difference, difference_of, is_order,
+    ADDED, ADDS, Differs, Fails, LINE, Line, READER, answer_on_threads, counting, counts_behind,
+    difference, difference_of, is_checked, is_order,
 };
 
 const SMALLEST_REPORT: &str = "save complete blocked 0 faults 0 sweep 1
@@ -36,34 +36,7 @@ fn the_smallest_machine_is_saved_as_on_one_thread(rt: HostRuntime) -> Result<(),
     Ok(())
 }
 
-/// Each vCPU adds to the first word of a page of its own, over and over.
-#[rattlefmt::skip]
-const ADDS: [u8; 28] = [
-    0x97, 0x22, 0x00, 0x00, // auipc x5, 2
-    0x13, 0x13, 0xc5, 0x00, // slli x6, x10, 12
-    0xb3, 0x82, 0x62, 0x00, // add x5, x5, x6
-    0x83, 0xb3, 0x02, 0x00, // ld x7, 0(x5)
-    0x93, 0x83, 0x13, 0x00, // addi x7, x7, 1
-    0x23, 0xb0, 0x72, 0x00, // sd x7, 0(x5)
-    0x6f, 0xf0, 0x5f, 0xff, // jal x0, -12
-];
-
-/// What the guest has become behind both phases.
-const ADDED: &str = "clock 179998
-cpu 0 running pc 0000000080000010 steps 60000
-x5 0000000080002000
-x7 0000000000003a97
-cpu 1 running pc 0000000080000010 steps 60000
-x5 0000000080003000
-x6 0000000000001000
-x7 0000000000003a97
-x10 0000000000000001
-serial 0 lost 0
-timer 0000000000000000
-ram pages 512 nonzero 3 sum 013a76b9ffd68e7a
-";
-
-/// What it was at the instant.
+/// What the guest that adds was at the instant.
 const ADDED_AT_THE_INSTANT: &str = "clock 29998
 cpu 0 running pc 0000000080000010 steps 10000
 x5 0000000080002000
@@ -160,23 +133,6 @@ ram pages 2 nonzero 2 sum 0052b02380002297
 fault 4 file-fault
 ";
 
-/// Whether a check of a file has this status and this line.
-fn is_checked<'a>(
-    alloc: Global,
-    file: &'a [u8],
-    status: u8,
-    printed: &'a str,
-) -> Result<bool, Fail> {
-    let line = Line {
-        words: &["check", "in=a"],
-        input: file,
-        status,
-        printed,
-        ..READER
-    };
-    Ok(difference(alloc, &line)?.is_none())
-}
-
 /// Whether a save in which this call on the file fails alone ends before its second phase, with the line of the fault alone,
 /// or behind it with the report of the guest that ran on; and whether a check of its file has this status and this line.
 fn fails_so<R: Threads + Wait + Sync>(
@@ -242,15 +198,6 @@ fn where_a_call_on_the_file_fails_every_page_is_released(rt: HostRuntime) -> Res
     Ok(())
 }
 
-/// addi x5, x5, 1 and jal x0, -4, and a byte in each of pages 1 and 2.
-fn counts() -> [u8; 8193] {
-    let mut image = [0; 8193];
-    image[..8].copy_from_slice(&[0x93, 0x82, 0x12, 0, 0x6f, 0xf0, 0xdf, 0xff]);
-    image[4096] = 1;
-    image[8192] = 1;
-    image
-}
-
 const COUNTED: &str = "save failed blocked 0 faults 0 sweep 1
 clock 8
 cpu 0 running pc 0000000080000000 steps 4
@@ -277,7 +224,7 @@ fn fails_in_the_middle<R: Threads + Wait + Sync>(rt: &R, alloc: Global) -> Resul
             "run=4",
             "mode=threads",
         ],
-        image: &counts(),
+        image: &counting(),
         output_fails: Fails::At(5),
         ..LINE
     };

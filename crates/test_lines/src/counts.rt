@@ -1,20 +1,20 @@
 /// The counts that the first line of a report tells.
 #[derive(Clone, Copy, Debug, PartialEq, Eq)]
-pub(crate) struct Counts {
-    pub(crate) blocked: u64,
-    pub(crate) faults: u64,
-    pub(crate) sweep: u64,
+pub struct Counts {
+    pub blocked: u64,
+    pub faults: u64,
+    pub sweep: u64,
 }
 
 impl Counts {
     /// How many pages were copied.
-    pub(crate) fn pages(&self) -> u64 {
+    pub fn pages(&self) -> u64 {
         self.faults.saturating_add(self.sweep)
     }
 }
 
 /// The counts of a text that begins so, and what stands behind its first line.
-pub(crate) fn counts_behind<'a>(text: &'a str, begins: &str) -> Option<(Counts, &'a str)> {
+pub fn counts_behind<'a>(text: &'a str, begins: &str) -> Option<(Counts, &'a str)> {
     let (line, rest) = text.split_once('\n')?;
     let (_, blocked) = line.strip_prefix(begins)?.split_once(" blocked ")?;
     let (blocked, faults) = blocked.split_once(" faults ")?;

@@ -1,0 +1,10 @@
+//! Tests of the lines of a save with a relay: what they print and write, over files in memory, what a call on the file that fails
+//! leaves, and that pages are copied while one is written, over a file and a gate of their own.
+#![tactic(auto)]
+
+#[cfg(test)]
+mod failures;
+#[cfg(test)]
+mod meeting;
+#[cfg(test)]
+mod saves;
