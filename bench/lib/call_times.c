@@ -6,7 +6,8 @@
  *     NANOSECONDS sync THREAD NANOSECONDS
  *
  * The last number is how long the sync took. Threads are counted from 1 in the order in which they are made; 0 is the one that the
- * program starts with. It is loaded before the program's libraries (LD_PRELOAD), and writes to the file that CALL_TIMES names. */
+ * program starts with. It is loaded before the program's libraries (LD_PRELOAD), and writes to the file that CALL_TIMES names.
+ * Where CALL_DELAY is a number, each write of 4,096 bytes takes so many microseconds longer. */
 #define _GNU_SOURCE
 #include <dlfcn.h>
 #include <fcntl.h>
@@ -16,8 +17,10 @@
 #include <stdio.h>
 #include <stdlib.h>
 #include <time.h>
+#include <unistd.h>
 
 static int notes = -1;
+static struct timespec delay;
 static atomic_int made;
 static _Thread_local int thread;
 
@@ -39,6 +42,9 @@ static int (*real_open(void))(const char *, int, ...) {
 
 __attribute__((constructor)) static void begin_notes(void) {
     notes = real_open()(getenv("CALL_TIMES"), O_WRONLY | O_CREAT | O_TRUNC | O_APPEND, 0600);
+    const char *microseconds = getenv("CALL_DELAY");
+    if (microseconds)
+        delay.tv_nsec = atol(microseconds) * 1000;
 }
 
 static void *run_noted(void *argument) {
@@ -76,4 +82,11 @@ int fsync(int file) {
     long long after = now();
     dprintf(notes, "%lld sync %d %lld\n", after, thread, after - before);
     return result;
+}
+
+ssize_t write(int file, const void *bytes, size_t count) {
+    ssize_t (*put)(int, const void *, size_t) = dlsym(RTLD_NEXT, "write");
+    if (count == 4096 && delay.tv_nsec)
+        nanosleep(&delay, NULL);
+    return put(file, bytes, count);
 }
