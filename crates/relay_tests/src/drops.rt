@@ -33,9 +33,9 @@ const FULL_AT_FIRST: [Call; 21] = [
     Call::Take(5, Taken::Busy),
 ];
 
-/// Six pages through a queue for one. The page that a vCPU waits for is taken, the next one is dropped out of hand, and each other
-/// one out of the queue.
-const TAKEN_AT_FIRST: [Call; 26] = [
+/// Six pages through a queue for one. The page that a vCPU waits for is taken before the first one is dropped, another is dropped
+/// out of hand, and each other one out of the queue. All of the three buffers are filled twice.
+const TAKEN_AT_FIRST: [Call; 28] = [
     Call::Step(StepAnswer::Done),
     Call::Step(StepAnswer::Done),
     Call::Step(StepAnswer::Stopped(1)),
@@ -45,16 +45,18 @@ const TAKEN_AT_FIRST: [Call; 26] = [
     Call::Pick(Pick::Fault(1)),
     Call::Take(1, Taken::Copied),
     Call::Turn(CopyTurn::Passed(0)),
-    Call::Fetch(Fetch::Got(0)),
     Call::Discard(Discard::Took(0)),
     Call::Discard(Discard::Again),
     Call::Turn(CopyTurn::Passed(2)),
     Call::Turn(CopyTurn::Full),
-    Call::Discard(Discard::Took(2)),
+    Call::Fetch(Fetch::Got(2)),
     Call::Turn(CopyTurn::Passed(3)),
     Call::Turn(CopyTurn::Full),
+    Call::Discard(Discard::Took(2)),
     Call::Discard(Discard::Took(3)),
+    Call::Discard(Discard::Again),
     Call::Turn(CopyTurn::Passed(4)),
+    Call::Turn(CopyTurn::Full),
     Call::Discard(Discard::Took(4)),
     Call::Turn(CopyTurn::Passed(5)),
     Call::Turn(CopyTurn::Done),

@@ -73,17 +73,22 @@ fn pages_come_out_as_they_went_in_with_their_bytes(rt: HostRuntime) -> Result<()
 /// A full queue stays so, and then its first page comes into hand.
 static FIRST_OUT: [Call; 2] = [Call::Turn(CopyTurn::Full), Call::Fetch(Fetch::Got(0))];
 
-/// Whether just so many pages wait in the queue, and one more in hand at each of its ends; and whether they come out in order.
+/// Whether just so many pages wait in the queue, and one more in hand at each of its ends; and whether they come out in order, and
+/// the last page goes in with the buffer of one that came out.
 fn holds_so_many<R: Wait>(rt: &R, alloc: Global, room: u32) -> Result<bool, Fail> {
     let bus = protected_bus(alloc, u64::from(room) + 3, &STORES, 0)?;
     let mut ends = ends_of(alloc, bus, room)?;
-    let next = room.saturating_add(1);
+    let (next, last) = (room.saturating_add(1), room.saturating_add(2));
     Ok(
         ends.first_not_passed(rt, 0) == Some((room, CopyTurn::Full))
             && ends.answered(rt, &FIRST_OUT) == 2
             && ends.first_not_passed(rt, room) == Some((next, CopyTurn::Full))
             && ends.answered(rt, &[Call::Take(0, Taken::Copied)]) == 1
-            && ends.first_not_come(rt, 1) == Some(next),
+            && ends.first_not_come(rt, 1) == Some(next)
+            && ends.answered(rt, &[Call::Turn(CopyTurn::Passed(next))]) == 1
+            && ends.first_not_come(rt, next) == Some(last)
+            && ends.first_not_passed(rt, last).is_none()
+            && ends.first_not_come(rt, last).is_none(),
     )
 }
 

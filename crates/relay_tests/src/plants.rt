@@ -1,6 +1,5 @@
 ghost use Rattle.std.specs.Prelude.{◌≡◌, IfOk, false, replicate};
 ghost use Rattle.ram_block.specs.Shape.{total_pages_of};
-ghost use Rattle.plain_bus.specs.Bus.{IsBus};
 
 use flat_machine::Machine;
 use page_cell::{PageBuf, Plant, Taken};
@@ -41,8 +40,7 @@ pub(crate) fn protected_bus(
     image: &[u8],
     run: u32,
 ) -> Result<PlainBus, Fail>
-    ensures fits { IfOk result IsBus }
-    ensures protected { IfOk result (λ b. b.writable ≡ replicate (total_pages_of b.machine.shape) false) }
+    ensures { IfOk result (λ b. b.writable ≡ replicate (total_pages_of b.machine.shape) false) }
 {
     let shape = Shape::new(1, 1, pages)?;
     if image.len() as u64 > shape.ram_bytes() || run > MAX_PHASE {
